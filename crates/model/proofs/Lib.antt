@@ -1,0 +1,3 @@
+pub mod CellFaults
+pub mod Parts
+pub mod Taken

@@ -1,0 +1,11 @@
+pub mod Land
+pub mod Limits
+pub mod Refusals
+pub mod Grid
+pub mod Bytes
+pub mod Faults
+pub mod WellFormed
+pub mod Terrain
+pub mod Of
+pub mod OfModel
+pub mod Edits

@@ -1,0 +1,10 @@
+// Height models: their cells, their bytes, and the land that they describe.
+mod bytes;
+pub mod edits;
+pub mod grid;
+pub mod land;
+pub mod limits;
+pub mod reading;
+pub mod refusal;
+pub mod steps;
+pub mod units;
