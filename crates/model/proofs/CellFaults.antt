@@ -32,6 +32,10 @@ cell-first bs c n e h s = cells-next bs c n h ∙ ap (λ o. or-else o (cells-fau
 pub cell-passed : (bs : List ℕ) (c n : ℕ) → c < n → None ≡ cell-fault bs c → cells-fault bs c (n - c) ≡ cells-fault bs (c + 1) (n - (c + 1))
 cell-passed bs c n h s = cells-next bs c n h ∙ ap (λ o. or-else o (cells-fault bs (c + 1) (n - (c + 1)))) (sym s)
 
+-- a fault of the head is that of the file
+pub fault-in-head : (bs : List ℕ) (e : Refusal) → Some e ≡ head-fault bs → Some e ≡ fault bs
+fault-in-head bs e head = ap (λ o. or-else o (or-else (cells-fault bs 0 (count bs)) (end-fault bs))) head
+
 -- a file whose head has no fault has that of its cells, else that of its end
 pub fault-in-cells : (bs : List ℕ) (n : ℕ) (e : Refusal) → None ≡ head-fault bs → n ≡ count bs → cells-fault bs 0 n ≡ Some e → Some e ≡ fault bs
 fault-in-cells bs n e head size first =

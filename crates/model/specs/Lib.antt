@@ -9,3 +9,4 @@ pub mod Terrain
 pub mod Of
 pub mod OfModel
 pub mod Edits
+pub mod Theorems

@@ -4,7 +4,7 @@ use mathlib.Core.List.{List}
 use mathlib.Core.Logic.{_⊎_}
 use Prim.Native.Nat.{ℕ, _+_, _≤_, _<_}
 use lib.ListN.{length}
-use Rattle.std.specs.declared.option.Option.the-variants.{Some, None}
+use Rattle.std.specs.declared.option.Option.the-variants.{None}
 use Rattle.model.specs.declared.refusal.Side.{Side}
 use Rattle.model.specs.declared.refusal.Side.the-variants.{Columns, Rows}
 use Rattle.model.specs.declared.refusal.Refusal.{Refusal}
@@ -66,5 +66,6 @@ Wrong bs (Sends c) = ⊥
 Wrong bs (Amount c) = ⊥
 
 -- A REFUSAL AT A PLACE means that all before it is whole and in range, and what is wrong there
-abbrev pub Refused-where : Type 0
-Refused-where = (bs : List ℕ) (r : Refusal) → fault bs ≡ Some r → WholeBefore bs (place r) × Wrong bs r
+pub record RefusedAt (bs : List ℕ) (r : Refusal) : Type 0 where
+  pub before : WholeBefore bs (place r)
+  pub wrong : Wrong bs r

@@ -7,4 +7,5 @@ pub mod limits;
 pub mod reading;
 pub mod refusal;
 pub mod steps;
+pub mod theorems;
 pub mod units;

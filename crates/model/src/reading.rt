@@ -2,10 +2,11 @@
 ghost use mathlib.Core.Path.{_≡_};
 ghost use Prim.Native.Nat.{_≤_};
 ghost use lib.ListN.{length};
-ghost use Rattle.std.specs.Results.{errPart};
+ghost use Rattle.std.specs.Results.{Cases, errPart};
 ghost use Rattle.std.specs.Vec.{made};
 ghost use Rattle.model.specs.Faults.{field-fault, cell-fault, head-fault, fault};
 ghost use Rattle.model.specs.Of.{Sized};
+ghost use Rattle.model.specs.WellFormed.{WellFormed, RefusedAt};
 use crate::bytes::{cell_start, height_in, mark_in, part_of, rain_in, read_two};
 use crate::bytes::{MARK_AT, RAIN_AT};
 use crate::grid::Grid;
@@ -53,6 +54,7 @@ fn check_cell(bytes: &[u8], cell: Cell) -> Result<(), Refusal>
 pub fn read(bytes: &[u8]) -> Result<Grid, Refusal>
     ensures fault { λ r. ⌜ errPart r ≡ fault (now (bytes .entry)) ⌝ }
     ensures grid { λ r. ⌜ made r (λ g. Sized g (now (bytes .entry))) ⌝ }
+    ensures meaning { λ r. ⌜ Cases r (λ _. WellFormed (now (bytes .entry))) (λ e. RefusedAt (now (bytes .entry)) e) ⌝ }
 {
     let grid = read_head(bytes)?;
     for c in 0..grid.cells() {
