@@ -32,14 +32,19 @@ cells-where : (bs : List ℕ) (k c : ℕ) (r : Refusal) → cells-fault bs c k �
 unfolding cells-fault
 cells-where bs zero c r e = absurd (grind arith)
 cells-where bs (suc k) c r e = elim (first-some (cell-fault bs c) (cells-fault bs (suc c) k) r e) [
-    | inl here ↦ (c, omega arith, omega (arith, add-suc c k), here, λ x l u. absurd (omega arith))
-    | inr later ↦
-        let q = cells-where bs k (suc c) r (later .1) in
-        (q .0, omega (arith, q .1), omega (arith, q .2, add-suc c k), q .3, λ x l u. elim (cases-eq x c) [
+  | inl here ↦ (c, omega arith, omega (arith, add-suc c k), here, λ x l u. absurd (omega arith))
+  | inr later ↦
+      let q = cells-where bs k (suc c) r (later .1) in (
+        q .0,
+        omega (arith, q .1),
+        omega (arith, q .2, add-suc c k),
+        q .3,
+        λ x l u. elim (cases-eq x c) [
           | inl same ↦ subst (λ (y : ℕ). cell-fault bs y ≡ None) (sym same) (later .0)
           | inr other ↦ q .4 x (omega arith) u
-        ])
-  ]
+        ],
+      )
+]
 
 -- a field that is not wholly there, or is out of range
 field-where : (p : List ℕ) (n v most at end : ℕ) (r : Refusal) → field-fault (if-whole p n v) most at end ≡ Some r →
@@ -100,13 +105,13 @@ cell-wrong bs d r e from =
 -- where the sizes are in range, and the cells before d without a fault, what is wrong with d is where the file is first wrong
 whole-to-cell : (bs : List ℕ) (d : ℕ) (r : Refusal) → Fits (columns bs) → Fits (rows bs) → ((e : ℕ) → e < d → Faultless bs e) → CellWrong bs d r → WholeBefore bs (place r)
 whole-to-cell bs d r wide tall before w = record {
-    there = w .there;
-    wide = λ _ _. wide;
-    tall = λ _ _. tall;
-    heights = λ c l u. elim (cases-eq c d) [ inl same ↦ subst (λ (x : ℕ). height-at bs x ≤ 1000000) (sym same) (w .height (omega arith)) | inr other ↦ before c (omega (arith, w .within)) .height ];
-    rains = λ c l u. elim (cases-eq c d) [ inl same ↦ subst (λ (x : ℕ). rain-at bs x ≤ 1000000) (sym same) (w .rain (omega arith)) | inr other ↦ before c (omega (arith, w .within)) .rain ];
-    marks = λ c l u. before c (omega (arith, w .within)) .mark;
-  }
+  there = w .there;
+  wide = λ _ _. wide;
+  tall = λ _ _. tall;
+  heights = λ c l u. elim (cases-eq c d) [ inl same ↦ subst (λ (x : ℕ). height-at bs x ≤ 1000000) (sym same) (w .height (omega arith)) | inr other ↦ before c (omega (arith, w .within)) .height ];
+  rains = λ c l u. elim (cases-eq c d) [ inl same ↦ subst (λ (x : ℕ). rain-at bs x ≤ 1000000) (sym same) (w .rain (omega arith)) | inr other ↦ before c (omega (arith, w .within)) .rain ];
+  marks = λ c l u. before c (omega (arith, w .within)) .mark;
+}
 
 -- a head without a fault
 head-none : (bs : List ℕ) → head-fault bs ≡ None → (4 ≤ length bs) × Fits (columns bs) × Fits (rows bs)
@@ -127,13 +132,13 @@ head-cases bs r e = grind (arith, tells)
 -- no cell begins before place 4
 whole-to : (bs : List ℕ) (p : ℕ) → p ≤ length bs → (4 ≤ length bs → p < 4) → (4 ≤ length bs → 2 ≤ p → Fits (columns bs)) → WholeBefore bs p
 whole-to bs p there head wide = record {
-    there = there;
-    wide = wide;
-    tall = λ l u. absurd (omega (arith, head l));
-    heights = λ c l u. absurd (omega (arith, head (omega arith)));
-    rains = λ c l u. absurd (omega (arith, head (omega arith)));
-    marks = λ c l u. absurd (omega (arith, head (omega arith)));
-  }
+  there = there;
+  wide = wide;
+  tall = λ l u. absurd (omega (arith, head l));
+  heights = λ c l u. absurd (omega (arith, head (omega arith)));
+  rains = λ c l u. absurd (omega (arith, head (omega arith)));
+  marks = λ c l u. absurd (omega (arith, head (omega arith)));
+}
 
 -- a file is wrong in its head, in a cell or at its end
 head-where : (bs : List ℕ) (r : Refusal) → head-fault bs ≡ Some r → RefusedAt bs r

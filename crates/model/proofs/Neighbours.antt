@@ -21,9 +21,9 @@ moves : (limit less more n : ℕ) →
     ((m : ℕ) × (moved limit less more n ≡ Some m) × (m + less ≡ n + more) × (m < limit)) ⊎
     ((moved limit less more n ≡ None) × ((m : ℕ) → m < limit → m + less ≡ n + more → ⊥))
 moves limit less more n = elim (cases-bool (leb less (n + more) && ltb (n + more - less) limit)) [
-    | inl e ↦ inl (n + more - less, rw e, grind (arith, tells), grind (arith, tells))
-    | inr e ↦ inr (rw e, λ m l s. grind (arith, tells))
-  ]
+  | inl e ↦ inl (n + more - less, rw e, grind (arith, tells), grind (arith, tells))
+  | inr e ↦ inr (rw e, λ m l s. grind (arith, tells))
+]
 
 -- a step leads from c to d
 abbrev leads : ℕ → ℕ → ℕ → ℕ → Step → Bool
@@ -37,21 +37,21 @@ any-leads w h c d (s ∷ steps) = leads w h c d s || any-leads w h c d steps
 -- d lies at row r and column x
 at-both : (w h d r x : ℕ) → r < h → x < w → eqb d (cell-at w r x) ≡ (ltb d (w * h) && (eqb (row w d) r && eqb (column w d) x))
 at-both w h d r x a b = elim (cases-lt d (w * h)) [
-    | inl l ↦ let p = placed w h d l in let q = numbered w h r x a b in grind (arith, tells)
-    | inr l ↦ let q = numbered w h r x a b in grind (arith, tells)
-  ]
+  | inl l ↦ let p = placed w h d l in let q = numbered w h r x a b in grind (arith, tells)
+  | inr l ↦ let q = numbered w h r x a b in grind (arith, tells)
+]
 
 off-grid : (w h d : ℕ) → ((row w d < h) × (column w d < w)) ⊎ (w * h ≤ d)
 off-grid w h d = elim (cases-lt d (w * h)) [ inl l ↦ inl (placed w h d l .tall, placed w h d l .wide) | inr l ↦ inr l ]
 
 step-leads : (w h c d : ℕ) (s : Step) → among d (listOf (stepped w h s c)) ≡ leads w h c d s
 step-leads w h c d s = elim (moves h (s .up) (s .down) (row w c)) [
-    | inl r ↦ elim (moves w (s .left) (s .right) (column w c)) [
-      | inl x ↦ let e = at-both w h d (r .0) (x .0) (r .3) (x .3) in rw (r .1, x .1) (grind (arith, tells))
-      | inr x ↦ let n = off-grid w h d in let no = x .1 (column w d) in rw (r .1, x .0) (grind (arith, tells))
-    ]
-    | inr r ↦ let n = off-grid w h d in let no = r .1 (row w d) in rw (r .0) (grind (arith, tells))
+  | inl r ↦ elim (moves w (s .left) (s .right) (column w c)) [
+    | inl x ↦ let e = at-both w h d (r .0) (x .0) (r .3) (x .3) in rw (r .1, x .1) (grind (arith, tells))
+    | inr x ↦ let n = off-grid w h d in let no = x .1 (column w d) in rw (r .1, x .0) (grind (arith, tells))
   ]
+  | inr r ↦ let n = off-grid w h d in let no = r .1 (row w d) in rw (r .0) (grind (arith, tells))
+]
 
 among-++ : (d : ℕ) (xs ys : List ℕ) → among d (xs ++ ys) ≡ (among d xs || among d ys)
 among-++ d [] ys = refl

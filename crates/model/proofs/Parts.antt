@@ -20,18 +20,18 @@ part-length bs c = length-take 9 (drop (start c) bs) ∙ ap (min 9) (length-drop
 -- from one place to another, each no further than the end, lie the n entries from the first place on, as far as there are any
 pub between-ends : (xs : List ℕ) (a n : ℕ) → take (min (a + n) (length xs) - min a (length xs)) (drop (min a (length xs)) xs) ≡ take n (drop a xs)
 between-ends xs a n = elim (cases-lt a (length xs)) [
-    | inl in-it ↦
-        let from : min a (length xs) ≡ a = omega arith in
-        elim (cases-lt (length xs) (a + n)) [
-          | inl short ↦
-              let size : min (a + n) (length xs) - min a (length xs) ≡ length xs - a = omega arith in
-              rw (size, from) (take-rest xs a ∙ sym (take-all n (drop a xs) (simp length-drop (omega arith))))
-          | inr whole ↦ let size : min (a + n) (length xs) - min a (length xs) ≡ n = omega arith in rw (size, from) refl
-        ]
-    | inr past ↦
-        let size : min (a + n) (length xs) - min a (length xs) ≡ 0 = omega arith in
-        rw (size, drop-all a xs past) (sym (take-all n [] (omega arith)))
-  ]
+  | inl in-it ↦
+      let from : min a (length xs) ≡ a = omega arith in
+      elim (cases-lt (length xs) (a + n)) [
+        | inl short ↦
+            let size : min (a + n) (length xs) - min a (length xs) ≡ length xs - a = omega arith in
+            rw (size, from) (take-rest xs a ∙ sym (take-all n (drop a xs) (simp length-drop (omega arith))))
+        | inr whole ↦ let size : min (a + n) (length xs) - min a (length xs) ≡ n = omega arith in rw (size, from) refl
+      ]
+  | inr past ↦
+      let size : min (a + n) (length xs) - min a (length xs) ≡ 0 = omega arith in
+      rw (size, drop-all a xs past) (sym (take-all n [] (omega arith)))
+]
 
 -- a value of a file of n cells is there if and only if there is the cell
 pub if-whole-if-cell : (bs : List ℕ) (n c m v : ℕ) → length bs ≡ start n → 1 ≤ m → m ≤ 9 → if-whole (cell-part bs c) m v ≡ cond (ltb c n) (Some v) None

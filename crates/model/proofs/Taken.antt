@@ -47,8 +47,8 @@ each-cell bs zero c d e l u = absurd (omega arith)
 each-cell bs (suc k) c d e l u =
     let p = both-none (cell-fault bs c) (cells-fault bs (suc c) k) e in
     elim (cases-lt c d) [
-      inl later ↦ each-cell bs k (suc c) d (p .1) later (omega (arith, add-suc c k))
-    | inr here ↦ let same : c ≡ d = omega arith in subst (λ (x : ℕ). cell-fault bs x ≡ None) same (p .0)
+      | inl later ↦ each-cell bs k (suc c) d (p .1) later (omega (arith, add-suc c k))
+      | inr here ↦ let same : c ≡ d = omega arith in subst (λ (x : ℕ). cell-fault bs x ≡ None) same (p .0)
     ]
 
 pub no-cells-fault : (bs : List ℕ) (k c : ℕ) → ((d : ℕ) → c ≤ d → d < c + k → cell-fault bs d ≡ None) → cells-fault bs c k ≡ None

@@ -161,8 +161,8 @@ heights-read-back bs c v f in-it low =
     let same = put-others bs (start c) v in
     rewritten bs cs (start c) 4 (but (height-at bs) c v) (rain-at bs) (mark-at bs) f (omega arith) (put-length bs (start c) v) same
     (λ d l. but-at (height-at bs) (height-at cs) c v d 1000000
-      (λ e. subst (λ (x : ℕ). height-at cs x ≡ v) (sym e) (height-is cs c ∙ put-same bs (start c) v (omega (arith, f .long)) (omega arith)))
-      (λ ne. height-kept bs cs (start c) 4 d same (grind (arith, apart-from c d ne))) low (f .heights d l))
+    (λ e. subst (λ (x : ℕ). height-at cs x ≡ v) (sym e) (height-is cs c ∙ put-same bs (start c) v (omega (arith, f .long)) (omega arith)))
+    (λ ne. height-kept bs cs (start c) 4 d same (grind (arith, apart-from c d ne))) low (f .heights d l))
     (λ d l. (rain-kept bs cs (start c) 4 d same (grind (arith, cases-lt d c)), f .rains d l))
     (λ d l. (mark-kept bs cs (start c) 4 d same (grind (arith, cases-lt d c)), f .marks d l))
 
@@ -173,8 +173,8 @@ rains-read-back bs c v f in-it low =
     rewritten bs cs (start c + 4) 4 (height-at bs) (but (rain-at bs) c v) (mark-at bs) f (omega arith) (put-length bs (start c + 4) v) same
     (λ d l. (height-kept bs cs (start c + 4) 4 d same (grind (arith, cases-lt c d)), f .heights d l))
     (λ d l. but-at (rain-at bs) (rain-at cs) c v d 1000000
-      (λ e. subst (λ (x : ℕ). rain-at cs x ≡ v) (sym e) (rain-is cs c ∙ put-same bs (start c + 4) v (omega (arith, f .long)) (omega arith)))
-      (λ ne. rain-kept bs cs (start c + 4) 4 d same (grind (arith, apart-from c d ne))) low (f .rains d l))
+    (λ e. subst (λ (x : ℕ). rain-at cs x ≡ v) (sym e) (rain-is cs c ∙ put-same bs (start c + 4) v (omega (arith, f .long)) (omega arith)))
+    (λ ne. rain-kept bs cs (start c + 4) 4 d same (grind (arith, apart-from c d ne))) low (f .rains d l))
     (λ d l. (mark-kept bs cs (start c + 4) 4 d same (grind (arith, cases-lt d c)), f .marks d l))
 
 pub marks-read-back : Marks-read-back
@@ -185,5 +185,5 @@ marks-read-back bs c v f in-it low =
     (λ d l. (height-kept bs cs (start c + 8) 1 d same (grind (arith, cases-lt c d)), f .heights d l))
     (λ d l. (rain-kept bs cs (start c + 8) 1 d same (grind (arith, cases-lt c d)), f .rains d l))
     (λ d l. but-at (mark-at bs) (mark-at cs) c v d 1
-      (λ e. subst (λ (x : ℕ). mark-at cs x ≡ v) (sym e) (mark-is cs c ∙ getD-set-same bs (start c + 8) v 0 (omega (arith, f .long))))
-      (λ ne. mark-kept bs cs (start c + 8) 1 d same (grind (arith, apart-from c d ne))) low (f .marks d l))
+    (λ e. subst (λ (x : ℕ). mark-at cs x ≡ v) (sym e) (mark-is cs c ∙ getD-set-same bs (start c + 8) v 0 (omega (arith, f .long))))
+    (λ ne. mark-kept bs cs (start c + 8) 1 d same (grind (arith, apart-from c d ne))) low (f .marks d l))

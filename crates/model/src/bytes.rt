@@ -9,6 +9,7 @@ use crate::units::Cell;
 
 // Where the rain and the drain mark stand in the bytes of a cell, behind its height.
 pub(crate) const RAIN_AT: usize = 4;
+
 pub(crate) const MARK_AT: usize = 8;
 
 // The number in the first two bytes.

@@ -7,10 +7,16 @@ ghost use lib.ListN.{length, set};
 ghost use Rattle.model.specs.Bytes.{start};
 ghost use Rattle.model.specs.Edits.{put-four, fits-cell, with-height, with-rain, with-mark};
 ghost use Rattle.model.specs.Limits.{max-height, max-rain};
-use crate::bytes::{cell_start, MARK_AT, RAIN_AT};
+use crate::bytes::MARK_AT;
+use crate::bytes::RAIN_AT;
+use crate::bytes::cell_start;
 use crate::grid::Grid;
-use crate::limits::{CELL_BYTES, MAX_HEIGHT, MAX_RAIN};
-use crate::units::{Amount, Cell, Height};
+use crate::limits::CELL_BYTES;
+use crate::limits::MAX_HEIGHT;
+use crate::limits::MAX_RAIN;
+use crate::units::Amount;
+use crate::units::Cell;
+use crate::units::Height;
 
 // A number into four bytes, low byte first.
 fn write_four(bytes: &mut [u8], at: usize, value: u32)

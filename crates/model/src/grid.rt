@@ -1,6 +1,7 @@
 // The grid of a model's cells.
 ghost use Prim.Native.Nat.{_<_, _≤_};
 ghost use Rattle.model.specs.Limits.{max-side};
+
 mod methods;
 
 // A row and a column, each counted from 0.

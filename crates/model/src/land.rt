@@ -7,6 +7,7 @@ ghost use Rattle.std.specs.Options.{isSome};
 ghost use Rattle.model.specs.Bytes.{columns, rows, start, count};
 ghost use Rattle.model.specs.Faults.{fault};
 use crate::grid::Grid;
+
 mod values;
 
 // The bytes of a file without a fault, and the grid that they describe.

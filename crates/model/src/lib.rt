@@ -7,5 +7,7 @@ pub mod limits;
 pub mod reading;
 pub mod refusal;
 pub mod steps;
+#[cfg(test)]
+mod tests;
 pub mod theorems;
 pub mod units;

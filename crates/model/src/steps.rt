@@ -9,10 +9,20 @@ pub struct Step {
     pub down: u8,
 }
 
-// The steps over the four sides of a cell, in the order in which neighbours are always visited: up, left, right, down.
-pub const SIDES: [Step; 4] = [
-    Step { up: 1, left: 0, right: 0, down: 0 },
-    Step { up: 0, left: 1, right: 0, down: 0 },
-    Step { up: 0, left: 0, right: 1, down: 0 },
-    Step { up: 0, left: 0, right: 0, down: 1 },
-];
+const STAY: Step = Step {
+    up: 0,
+    left: 0,
+    right: 0,
+    down: 0,
+};
+
+const UP: Step = Step { up: 1, ..STAY };
+
+const LEFT: Step = Step { left: 1, ..STAY };
+
+const RIGHT: Step = Step { right: 1, ..STAY };
+
+const DOWN: Step = Step { down: 1, ..STAY };
+
+// The steps over the four sides of a cell, in the order in which neighbours are always visited.
+pub const SIDES: [Step; 4] = [UP, LEFT, RIGHT, DOWN];

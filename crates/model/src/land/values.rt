@@ -10,9 +10,14 @@ ghost use Rattle.model.specs.Of.{Sized, if-cell};
 ghost use Rattle.model.specs.OfModel.{bytes-of};
 ghost use Rattle.std.specs.declared.option.Option.the-variants.{None};
 use super::Model;
-use crate::bytes::{height_in, mark_in, part_of, rain_in};
+use crate::bytes::height_in;
+use crate::bytes::mark_in;
+use crate::bytes::part_of;
+use crate::bytes::rain_in;
 use crate::grid::Grid;
-use crate::units::{Amount, Cell, Height};
+use crate::units::Amount;
+use crate::units::Cell;
+use crate::units::Height;
 
 impl<'a> Model<'a> {
     // The model in bytes that were read without a fault.

@@ -12,6 +12,6 @@ pub returns : need.returns
 returns c =
     let bs = c .args .self .now .bytes .now in
     let mark : c .mark-in .result ≡ cond (ltb (c .args .cell .0) (count bs)) (Some (mark-at bs (c .args .cell .0))) None =
-      c .mark-in .ensures ∙ (ap mark-in (c .part-of .ensures) ∙ if-whole-if-cell bs _ (c .args .cell .0) 9 _ (c .args .self .now .long) (omega arith) (omega arith))
+    c .mark-in .ensures ∙ (ap mark-in (c .part-of .ensures) ∙ if-whole-if-cell bs _ (c .args .cell .0) 9 _ (c .args .self .now .long) (omega arith) (omega arith))
     in
     grind (arith, tells, c .eq .ensures)

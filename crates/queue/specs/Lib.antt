@@ -1,0 +1,4 @@
+pub mod Heap
+pub mod Limits
+pub mod Calls
+pub mod Rows
