@@ -1,12 +1,13 @@
 -- The cells that a table of steps leads to.
 use mathlib.Core.Path.{_≡_, refl, sym, ap, ap₂, _∙_}
-use mathlib.Core.Bool.{Bool, false, _&&_, _||_, or-assoc}
+use mathlib.Core.Bool.{Bool, true, false, _&&_, _||_, or-assoc}
 use mathlib.Core.List.{List, [], _∷_, _++_}
 use mathlib.Core.Logic.{_⊎_, inl, inr}
 use Prim.Native.Nat.{ℕ, _+_, _-_, _*_, _≤_, _<_}
 use native.Mathlib.Omega.{arith}
 use lib.Dec.{leb, ltb, eqb}
-use Rattle.std.proofs.shelf.Tests.{cases-lt, cases-bool}
+use borrow.Author.Tests.{eq-eqb, ltb-true}
+use Rattle.std.proofs.shelf.Tests.{cases-lt, cases-bool, and-parts, or-left}
 use Rattle.std.proofs.shelf.Ways.{tells}
 use Rattle.std.specs.declared.option.Option.{Option}
 use Rattle.std.specs.declared.option.Option.the-variants.{Some, None}
@@ -53,16 +54,22 @@ step-leads w h c d s = elim (moves h (s .up) (s .down) (row w c)) [
   | inr r ↦ let n = off-grid w h d in let no = r .1 (row w d) in rw (r .0) (grind (arith, tells))
 ]
 
-among-++ : (d : ℕ) (xs ys : List ℕ) → among d (xs ++ ys) ≡ (among d xs || among d ys)
-among-++ d [] ys = refl
-among-++ d (x ∷ xs) ys = ap (λ b. eqb d x || b) (among-++ d xs ys) ∙ sym (or-assoc (eqb d x) (among d xs) (among d ys))
+pub among-append : (d : ℕ) (xs ys : List ℕ) → among d (xs ++ ys) ≡ (among d xs || among d ys)
+among-append d [] ys = refl
+among-append d (x ∷ xs) ys = ap (λ b. eqb d x || b) (among-append d xs ys) ∙ sym (or-assoc (eqb d x) (among d xs) (among d ys))
 
 table-leads : (w h c d : ℕ) (steps : List Step) → among d (neighbours w h steps c) ≡ any-leads w h c d steps
 table-leads w h c d [] = refl
-table-leads w h c d (s ∷ steps) = among-++ d (listOf (stepped w h s c)) (neighbours w h steps c) ∙ ap₂ _||_ (step-leads w h c d s) (table-leads w h c d steps)
+table-leads w h c d (s ∷ steps) = among-append d (listOf (stepped w h s c)) (neighbours w h steps c) ∙ ap₂ _||_ (step-leads w h c d s) (table-leads w h c d steps)
 
 sides-lead : (w h c d : ℕ) → any-leads w h c d four-sides ≡ (ltb d (w * h) && adjacent w c d)
 sides-lead w h c d = grind (arith, tells)
 
 pub neighbours-share-a-side : Neighbours-share-a-side
 neighbours-share-a-side w h c d = table-leads w h c d four-sides ∙ sides-lead w h c d
+
+-- a step leads to a cell of the grid
+pub stepped-in : (w h c d : ℕ) (s : Step) → stepped w h s c ≡ Some d → d < w * h
+stepped-in w h c d s e =
+    let found : leads w h c d s ≡ true = sym (step-leads w h c d s) ∙ (ap (λ o. among d (listOf o)) e ∙ or-left (eqb d d) false (eq-eqb d d refl)) in
+    ltb-true d (w * h) (and-parts (ltb d (w * h)) _ found .0)

@@ -1,5 +1,6 @@
 -- A file without a fault is well formed, and a well-formed one has no fault.
 use mathlib.Core.Path.{_≡_, refl, sym, ap, subst, _∙_}
+use mathlib.Core.Bool.{false}
 use mathlib.Core.List.{List}
 use mathlib.Core.Logic.{inl, inr}
 use Prim.Native.Nat.{ℕ, zero, suc, _+_, _-_, _*_, _≤_, _<_, min}
@@ -8,6 +9,7 @@ use native.Mathlib.Omega.{arith}
 use lib.ListN.{length, take, drop, length-take, length-drop}
 use Rattle.std.proofs.shelf.Tests.{cases-lt}
 use Rattle.std.proofs.shelf.Ways.{tells}
+use Rattle.std.specs.Options.{isSome}
 use Rattle.std.specs.declared.option.Option.{Option}
 use Rattle.std.specs.declared.option.Option.the-variants.{Some, None}
 use Rattle.model.specs.declared.refusal.Refusal.{Refusal}
@@ -20,6 +22,10 @@ use Rattle.model.specs.WellFormed.{WellFormed, Taken-if-well-formed}
 pub both-none : (a b : Option Refusal) → or-else a b ≡ None → (a ≡ None) × (b ≡ None)
 both-none None b e = (refl, e)
 both-none (Some r) b e = grind arith
+
+none-is : (o : Option Refusal) → isSome o ≡ false → o ≡ None
+none-is None e = refl
+none-is (Some r) e = absurd (grind arith)
 
 -- what a cell without a fault has
 pub record Faultless (bs : List ℕ) (c : ℕ) : Type 0 where
@@ -103,3 +109,7 @@ taken bs f =
 
 pub taken-if-well-formed : Taken-if-well-formed
 taken-if-well-formed bs = (well-formed bs, taken bs)
+
+-- what a model's bytes are
+pub formed : (bs : List ℕ) → isSome (fault bs) ≡ false → WellFormed bs
+formed bs e = well-formed bs (none-is (fault bs) e)

@@ -41,3 +41,7 @@ cell-of g p = cond (ltb (p .row) (g .h) && ltb (p .column) (g .w)) (Some (record
 -- the cell that a step leads to from a cell, if there are both
 abbrev pub neighbour : Grid → Step → Cell → Option ℕ
 neighbour g s c = cond (ltb (c .0) (cells g)) (stepped (g .w) (g .h) s (c .0)) None
+
+-- the same in the grid of a file
+abbrev pub neighbour-in : List ℕ → Step → Cell → Option ℕ
+neighbour-in bs s c = cond (ltb (c .0) (count bs)) (stepped (columns bs) (rows bs) s (c .0)) None

@@ -6,7 +6,7 @@ ghost use Rattle.std.specs.Options.{mapped};
 ghost use Rattle.model.specs.Bytes.{count, height-at, rain-at};
 ghost use Rattle.model.specs.Faults.{fault};
 ghost use Rattle.model.specs.Terrain.{terrain, land};
-ghost use Rattle.model.specs.Of.{Sized, if-cell};
+ghost use Rattle.model.specs.Of.{Sized, number, if-cell, neighbour-in};
 ghost use Rattle.model.specs.OfModel.{bytes-of};
 ghost use Rattle.std.specs.declared.option.Option.the-variants.{None};
 use super::Model;
@@ -15,6 +15,7 @@ use crate::bytes::mark_in;
 use crate::bytes::part_of;
 use crate::bytes::rain_in;
 use crate::grid::Grid;
+use crate::steps::Step;
 use crate::units::Amount;
 use crate::units::Cell;
 use crate::units::Height;
@@ -36,6 +37,13 @@ impl<'a> Model<'a> {
         self.grid
     }
 
+    // The number of cells.
+    pub fn cells(&self) -> u32
+        ensures { λ r. ⌜ r ≡ count (bytes-of (now (self .entry))) ⌝ }
+    {
+        self.grid.cells()
+    }
+
     // The height of a cell, if there is such a cell.
     pub fn height(&self, cell: Cell) -> Option<Height>
         ensures { λ r. ⌜ mapped (λ v. v .0) r ≡ if-cell (bytes-of (now (self .entry))) cell (height-at (bytes-of (now (self .entry))) (cell .0)) ⌝ }
@@ -50,6 +58,13 @@ impl<'a> Model<'a> {
     {
         let rain = rain_in(part_of(self.bytes, cell))?;
         Some(Amount(u64::from(rain)))
+    }
+
+    // The cell that a step leads to, if there is one.
+    pub fn neighbour(&self, cell: Cell, step: Step) -> Option<Cell>
+        ensures { λ r. ⌜ mapped number r ≡ neighbour-in (bytes-of (now (self .entry))) step cell ⌝ }
+    {
+        self.grid.neighbour(cell, step)
     }
 
     // Whether a cell is marked as a drain; none is that does not exist.

@@ -1,0 +1,14 @@
+pub mod Levels
+pub mod Certified
+pub mod Moved
+pub mod Promises
+pub mod Sums
+pub mod Run
+pub mod Fair
+pub mod Ordered
+pub mod Right
+pub mod Sent
+pub mod Held
+pub mod Steps
+pub mod Of
+pub mod Flooded
