@@ -22,10 +22,10 @@ use Rattle.model.specs.WellFormed.{WellFormed}
 use Rattle.model.proofs.Neighbours.{stepped-in}
 use Rattle.queue.specs.Heap.{cell-of, level-of}
 use Rattle.flood.specs.declared.progress.Progress.{Progress}
-use Rattle.flood.specs.Run.{Ground, none, State, put, begun, taken, first-cell, first-level, wants, told, spread, after}
+use Rattle.flood.specs.Run.{Ground, none, State, put, begun, taken, first-cell, first-level, wants, told, spread, after, table}
 use Rattle.flood.specs.Fair.{Fair, Sound, sides-of, model-ground}
 use Rattle.flood.specs.Held.{queue-part, Holds, Sized}
-use Rattle.flood.proofs.Kept.{has, Frame, Good, Mid}
+use Rattle.flood.proofs.Kept.{has, Long, Frame, Good, Mid}
 use Rattle.flood.proofs.Putting.{fits, room}
 use Rattle.flood.proofs.Beginning.{begun-all}
 use Rattle.flood.proofs.First.{first-stands}
@@ -131,6 +131,10 @@ module _ (bs : List ℕ) (wf : WellFormed bs) where
   pub first-is : (k : ℕ) (ls fl wk : List ℕ) (p : Progress) → Holds (after g k) ls fl wk p →
       (cell-of (getD (queue-part (length ls) wk) 0 0) ≡ first-cell (after g k)) × (level-of (getD (queue-part (length ls) wk) 0 0) ≡ first-level (after g k))
   first-is k ls fl wk p h = (ap first-cell h, ap first-level h)
+
+  -- the lists of the last state have an entry for each cell
+  pub table-long : Long (count bs) (table g)
+  table-long = reached (land bs) (sides-of (terrain bs)) fair (count bs) (omega arith) .1 .good .frame .long
 
   module _ (k : ℕ) (more : k < count bs) where
     abbrev s : State

@@ -1,0 +1,7 @@
+pub mod Amounts
+pub mod Promises
+pub mod Accumulation
+pub mod Row
+pub mod Passing
+pub mod Draining
+pub mod Promise
