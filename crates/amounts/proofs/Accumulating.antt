@@ -1,12 +1,12 @@
 -- The rule for amounts: after each place the amounts are the rain and what came from the places behind it.
-use mathlib.Core.Path.{_≡_, refl, sym, ap, subst, _∙_}
-use mathlib.Core.Bool.{true, false, cond}
+use mathlib.Core.Path.{_≡_, refl, subst, _∙_}
+use mathlib.Core.Bool.{cond}
 use mathlib.Core.List.{List}
 use mathlib.Core.Logic.{inl, inr}
 use Prim.Native.Nat.{ℕ, zero, suc, _+_, _≤_, _<_}
 use native.Mathlib.Omega.{arith}
-use lib.Dec.{eqb, leb}
-use lib.ListN.{length, getD, set}
+use lib.Dec.{leb, eqb}
+use lib.ListN.{length, getD}
 use Rattle.std.proofs.shelf.Counted.{length-map-counting, getD-map-counting}
 use Rattle.std.proofs.shelf.Lists.{length-set, getD-set-same, getD-set-other, getD-past}
 use Rattle.std.proofs.shelf.Tests.{cases-bool, cases-eq, cases-lt}
@@ -16,7 +16,7 @@ use Rattle.flood.specs.Levels.{Flow}
 use Rattle.flood.specs.Sums.{sum}
 use Rattle.flood.specs.Run.{none}
 use Rattle.flood.proofs.Sums.{sum-same, sum-zero}
-use Rattle.amounts.specs.Amounts.{sends, sent, Carried}
+use Rattle.amounts.specs.Amounts.{sends, Carried}
 use Rattle.amounts.specs.Accumulation.{passed-on, accumulated, rains, Ordered-flow, Run-ordered, Rule-adds-up, Rule-keeps-length, Rule-stays-below, Rule-sums-fit}
 use Rattle.amounts.proofs.Sums.{sum-more}
 use Rattle.amounts.proofs.Carrying.{drained-acyclic, bounded}
@@ -33,7 +33,7 @@ run-ordered l s r = record {
 
 passed-length : (flow : List ℕ) (c : ℕ) (xs : List ℕ) → length (passed-on flow c xs) ≡ length xs
 unfolding passed-on
-passed-length flow c xs = let t = getD flow c 0 in let e = length-set xs t (getD xs t 0 + getD xs c 0) in grind (arith, tells)
+passed-length flow c xs = elim (cases-bool (eqb (getD flow c 0) none)) [ inl o ↦ rw o refl | inr o ↦ rw o (length-set xs _ _) ]
 
 pub rule-keeps-length : Rule-keeps-length
 unfolding accumulated

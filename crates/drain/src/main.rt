@@ -1,41 +1,22 @@
-// drain MODEL: reads a model and prints what is known of it, or why it is refused.
+// drain MODEL: drains a model and prints its lines, or why it is refused.
 use cli::Failed;
-use model::land::Model;
-use model::reading::read;
-use model::units::Cell;
+use tables::reports::drained;
 
-const USAGE: &str = "usage: drain MODEL\n";
+const USAGE: &str = "usage: drain MODEL\n\nDrains the model in a file and prints how many cells it has, what rained on it and what leaves it,\nthen a line for each cell whose level is above its height, and for each cell at which more leaves than rained on it.\n";
 
-// The line of a model: its cells, and the rain on all of them.
-fn summary(rt: &LibcRuntime, bytes: &[u8]) -> Result<(), Failed> {
-    let grid = match read(bytes) {
-        Ok(grid) => grid,
-        Err(refusal) => return Err(cli::refused(rt, refusal)),
-    };
-    let model = Model::new(grid, bytes);
-    let cells = grid.cells();
-    let mut rain = 0u64;
-    for c in 0..cells {
-        if let Some(amount) = model.rain(Cell(c)) {
-            rain = rain.saturating_add(amount.0);
-        }
-    }
-    match println!(rt, "cells {cells} rain {rain}") {
-        Ok(()) => Ok(()),
-        Err(_) => Err(Failed),
+// The lines of the model in a file.
+fn drain_file(rt: &LibcRuntime, path: &str) -> Result<(), Failed> {
+    let bytes = cli::read_file(rt, "drain", path)?;
+    match drained(rt.alloc(), &bytes) {
+        Ok(text) => cli::print(rt, "drain", text.as_str()),
+        Err(failure) => Err(cli::fail(rt, "drain", failure)),
     }
 }
 
 fn run(rt: &LibcRuntime) -> Result<(), Failed> {
     let words = cli::arguments(rt, "drain")?;
     match words.as_slice() {
-        [path] => {
-            if path.as_str() == "--help" {
-                return cli::print(rt, "drain", USAGE);
-            }
-            let bytes = cli::read_file(rt, "drain", path.as_str())?;
-            summary(rt, &bytes)
-        }
+        [path] if path.as_str() != "--help" => drain_file(rt, path.as_str()),
         _ => cli::print(rt, "drain", USAGE),
     }
 }

@@ -1,0 +1,4 @@
+// What planners get: the lines of a drained model, and refusals as lines.
+pub mod failure;
+pub mod lines;
+pub mod reports;
