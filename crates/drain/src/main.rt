@@ -2,7 +2,8 @@
 use cli::Failed;
 use tables::reports::drained;
 
-const USAGE: &str = "usage: drain MODEL\n\nDrains the model in a file and prints how many cells it has, what rained on it and what leaves it,\nthen a line for each cell whose level is above its height, and for each cell at which more leaves than rained on it.\n";
+const USAGE: &str =
+    "usage: drain MODEL\n\nDrains the model in a file and prints how many cells it has, what rained on it and what leaves it,\nthen a line for each cell whose level is above its height, and for each cell at which more leaves than rained on it.\n";
 
 // The lines of the model in a file.
 fn drain_file(rt: &LibcRuntime, path: &str) -> Result<(), Failed> {

@@ -2,4 +2,6 @@
 pub mod flooding;
 pub mod progress;
 pub mod sends;
+#[cfg(test)]
+mod tests;
 pub mod theorems;

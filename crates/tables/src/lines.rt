@@ -12,7 +12,9 @@ use amounts::answer::Drained;
 use amounts::passing::leaves_at;
 use model::land::Model;
 use model::refusal::Refusal;
-use model::units::{Amount, Cell, Height};
+use model::units::Amount;
+use model::units::Cell;
+use model::units::Height;
 use std::alloc::AllocError;
 use std::alloc::Global;
 
@@ -31,7 +33,12 @@ pub fn refusal_line(heap: Global, refusal: Refusal) -> Result<String, AllocError
 }
 
 // The first line: how many cells, what rained, what leaves.
-fn summary_line(heap: Global, cells: u32, rain: Amount, leaves: Amount) -> Result<String, AllocError>
+fn summary_line(
+    heap: Global,
+    cells: u32,
+    rain: Amount,
+    leaves: Amount,
+) -> Result<String, AllocError>
     ensures { λ r. ⌜ made r (λ s. string-bytes s ≡ summary cells (rain .0) (leaves .0)) ⌝ }
 {
     let rain = rain.0;
@@ -91,7 +98,12 @@ fn level_at(levels: &[u32], cell: Cell) -> Height
 }
 
 // The line of a cell of the model whose level is above its height.
-fn push_level_of(out: &mut String, model: &Model<'_>, levels: &[u32], cell: Cell) -> Result<(), AllocError>
+fn push_level_of(
+    out: &mut String,
+    model: &Model<'_>,
+    levels: &[u32],
+    cell: Cell,
+) -> Result<(), AllocError>
     ensures { λ r. ⌜ made r (λ _. string-bytes (now (out .exit)) ≡ string-bytes (now (out .entry)) ++ if-in (bytes-of (now (model .entry))) (cell .0) (level-of (bytes-of (now (model .entry))) (now (levels .entry)) (cell .0))) ⌝ }
 {
     match model.height(cell) {
@@ -101,7 +113,13 @@ fn push_level_of(out: &mut String, model: &Model<'_>, levels: &[u32], cell: Cell
 }
 
 // The line of a cell of the model at which more leaves than rains on it.
-fn push_exit_of(out: &mut String, model: &Model<'_>, flow: &[u32], amounts: &[u64], cell: Cell) -> Result<(), AllocError>
+fn push_exit_of(
+    out: &mut String,
+    model: &Model<'_>,
+    flow: &[u32],
+    amounts: &[u64],
+    cell: Cell,
+) -> Result<(), AllocError>
     ensures { λ r. ⌜ made r (λ _. string-bytes (now (out .exit)) ≡ string-bytes (now (out .entry)) ++ if-in (bytes-of (now (model .entry))) (cell .0) (exit-of (bytes-of (now (model .entry))) (now (flow .entry)) (now (amounts .entry)) (cell .0))) ⌝ }
 {
     match model.rain(cell) {
@@ -121,7 +139,12 @@ fn push_levels(out: &mut String, model: &Model<'_>, levels: &[u32]) -> Result<()
 }
 
 // The lines of all cells at which more leaves than rains on them.
-fn push_exits(out: &mut String, model: &Model<'_>, flow: &[u32], amounts: &[u64]) -> Result<(), AllocError>
+fn push_exits(
+    out: &mut String,
+    model: &Model<'_>,
+    flow: &[u32],
+    amounts: &[u64],
+) -> Result<(), AllocError>
     ensures { λ r. ⌜ made r (λ _. string-bytes (now (out .exit)) ≡ string-bytes (now (out .entry)) ++ lines (exit-of (bytes-of (now (model .entry))) (now (flow .entry)) (now (amounts .entry))) (count (bytes-of (now (model .entry))))) ⌝ }
 {
     for c in 0..model.cells() {
@@ -131,7 +154,14 @@ fn push_exits(out: &mut String, model: &Model<'_>, flow: &[u32], amounts: &[u64]
 }
 
 // All lines of a drained model.
-pub fn drain_lines(heap: Global, model: &Model<'_>, levels: &[u32], flow: &[u32], amounts: &[u64], answer: Drained) -> Result<String, AllocError>
+pub fn drain_lines(
+    heap: Global,
+    model: &Model<'_>,
+    levels: &[u32],
+    flow: &[u32],
+    amounts: &[u64],
+    answer: Drained,
+) -> Result<String, AllocError>
     ensures { λ r. ⌜ made r (λ s. string-bytes s ≡ drain-lines (bytes-of (now (model .entry))) (now (levels .entry)) (now (flow .entry)) (now (amounts .entry)) (answer .rain .0) (answer .leaves .0)) ⌝ }
 {
     let mut out = summary_line(heap, model.cells(), answer.rain, answer.leaves)?;

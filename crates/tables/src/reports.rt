@@ -21,7 +21,15 @@ use model::reading::read;
 use std::alloc::Global;
 
 // The lines of a model that was read, drained into slices of just the lengths that it needs.
-fn drained_into(heap: Global, grid: Grid, bytes: &[u8], levels: &mut [u32], flow: &mut [u32], amounts: &mut [u64], work: &mut [u64]) -> Result<String, Failure>
+fn drained_into(
+    heap: Global,
+    grid: Grid,
+    bytes: &[u8],
+    levels: &mut [u32],
+    flow: &mut [u32],
+    amounts: &mut [u64],
+    work: &mut [u64],
+) -> Result<String, Failure>
     requires sized { ⌜ Sized grid (now bytes) ⌝ }
     requires taken { ⌜ fault (now bytes) ≡ None ⌝ }
     requires levels { ⌜ length (now levels) ≡ count (now bytes) ⌝ }
@@ -31,7 +39,14 @@ fn drained_into(heap: Global, grid: Grid, bytes: &[u8], levels: &mut [u32], flow
     ensures { λ r. ⌜ Cases r (λ s. string-bytes s ≡ drain-text (now (bytes .entry))) (λ f. f ≡ Memory) ⌝ }
 {
     let answer = drain(bytes, levels, flow, amounts, work)?;
-    let text = drain_lines(heap, &Model::new(grid, bytes), levels, flow, amounts, answer)?;
+    let text = drain_lines(
+        heap,
+        &Model::new(grid, bytes),
+        levels,
+        flow,
+        amounts,
+        answer,
+    )?;
     Ok(text)
 }
 
@@ -45,5 +60,13 @@ pub fn drained(heap: Global, bytes: &[u8]) -> Result<String, Failure>
     let mut flow = vec![in heap; 0u32; n]?;
     let mut amounts = vec![in heap; 0u64; n]?;
     let mut work = vec![in heap; 0u64; 3 * n]?;
-    drained_into(heap, grid, bytes, &mut levels, &mut flow, &mut amounts, &mut work)
+    drained_into(
+        heap,
+        grid,
+        bytes,
+        &mut levels,
+        &mut flow,
+        &mut amounts,
+        &mut work,
+    )
 }
