@@ -11,6 +11,7 @@ use lib.ListN.{length, getD, take, drop}
 use Rattle.std.proofs.shelf.Lists.{getD-drop, length-take, length-take-le, length-append, length-drop, take-at, drop-at, drop-drop, places, same-lists, getD-take, getD-append-left, getD-append-right}
 use Rattle.std.proofs.shelf.Tests.{cases-lt}
 use Rattle.model.specs.Bytes.{four}
+use Rattle.flood.specs.Sent.{sends-code}
 use Rattle.amounts.specs.Row.{four-bytes, eight-bytes, eight, row-bytes, row-start, row-part, bytes-of, put-row, Row-fits, Rows-read-back}
 
 -- the number in the four bytes from a place on, by its bytes
@@ -67,6 +68,10 @@ row-over t bs s c e =
     let n : s + 20 - s ≡ 20 = omega arith in
     rw (n, e) (ap (λ xs. take (row-start c) t ++ (bs ++ xs)) (drop-drop 20 (row-start c) t))
 
+-- a part of a table read
+pub row-from : (t : List ℕ) (s c : ℕ) → s ≡ row-start c → take (s + 20 - s) (drop s t) ≡ row-part t c
+row-from t s c e = let n : s + 20 - s ≡ 20 = omega arith in rw (n, e) refl
+
 -- a table with another row: that row, and the others
 this-row : (t bs : List ℕ) (c : ℕ) → row-start c + 20 ≤ length t → length bs ≡ 20 → row-part (put-row t c bs) c ≡ bs
 this-row t bs c fits size =
@@ -107,7 +112,7 @@ rows-read-back t c r fits small =
     let here : row-part (put-row t c bs) c ≡ bs = this-row t bs c fits refl in
     record {
       level = ap four here ∙ (four-back (r .level .0) ∙ omega (arith, small .level));
-      sends = ap (λ p. four (drop 4 p)) here ∙ (four-back (r .sends) ∙ omega (arith, small .sends));
+      sends = ap (λ p. four (drop 4 p)) here ∙ (four-back (sends-code (r .sends)) ∙ omega (arith, small .sends));
       place = ap (λ p. four (drop 8 p)) here ∙ (four-back (r .place) ∙ omega (arith, small .place));
       amount = ap (λ p. eight (drop 12 p)) here ∙ eight-back (r .amount .0) (small .amount);
       others = λ d ne. other-row t bs c d fits refl ne;

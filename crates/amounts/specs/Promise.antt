@@ -12,6 +12,7 @@ use Rattle.flood.specs.Run.{flow-of}
 use Rattle.amounts.specs.declared.answer.Drained.{Drained}
 use Rattle.amounts.specs.Amounts.{Carried, all-rain, all-off}
 use Rattle.amounts.specs.Passing.{table-amounts}
+use Rattle.amounts.specs.Joined.{joined, row-from}
 
 -- the flow and the amounts that the rule gives for the bytes of a model
 abbrev pub flow-in : List ℕ → Flow
@@ -19,6 +20,13 @@ flow-in bs = flow-of (table-of bs)
 
 abbrev pub amount-in : List ℕ → ℕ → ℕ
 amount-in bs c = getD (table-amounts bs) c 0
+
+-- the bytes of a table: a row for each cell, in the order of numbers
+abbrev pub table-row : List ℕ → ℕ → List ℕ
+table-row bs c = row-from (table-of bs .levels) (table-of bs .flow) (table-of bs .places) (table-amounts bs) c
+
+abbrev pub table-bytes : List ℕ → List ℕ
+table-bytes bs = joined (table-row bs) (count bs)
 
 -- THE MAIN PROMISE
 pub record Promise (bs levels flow amounts work levels′ flow′ amounts′ work′ : List ℕ) (d : Drained) : Type 0 where

@@ -8,6 +8,7 @@ use lib.ListN.{length, take, drop}
 use Rattle.std.specs.declared.option.Option.{Option}
 use Rattle.std.specs.declared.option.Option.the-variants.{Some, None}
 use Rattle.model.specs.Bytes.{four}
+use Rattle.flood.specs.Sent.{sends-code, sends-of}
 use Rattle.amounts.specs.declared.rows.Row.{Row}
 
 -- the bytes of a row
@@ -56,11 +57,11 @@ amount-at t c = eight (drop 12 (row-part t c))
 abbrev pub row-at : List ℕ → ℕ → Option Row
 row-at t c =
     cond (has-row t c)
-    (Some (record { level = record { 0 = level-at t c }; sends = sends-at t c; place = place-at t c; amount = record { 0 = amount-at t c } })) None
+    (Some (record { level = record { 0 = level-at t c }; sends = sends-of (sends-at t c); place = place-at t c; amount = record { 0 = amount-at t c } })) None
 
 -- the bytes of a row as the code has it
 abbrev pub bytes-of : Row → List ℕ
-bytes-of r = row-bytes (r .level .0) (r .sends) (r .place) (r .amount .0)
+bytes-of r = row-bytes (r .level .0) (sends-code (r .sends)) (r .place) (r .amount .0)
 
 -- a table with other bytes for the row of cell c
 abbrev pub put-row : List ℕ → ℕ → List ℕ → List ℕ
@@ -69,7 +70,7 @@ put-row t c bs = take (row-start c) t ++ (bs ++ drop (row-start c + row-size) t)
 -- u is t with another row for cell c
 pub record Row-written (t u : List ℕ) (c : ℕ) (r : Row) : Type 0 where
   pub level : level-at u c ≡ r .level .0
-  pub sends : sends-at u c ≡ r .sends
+  pub sends : sends-at u c ≡ sends-code (r .sends)
   pub place : place-at u c ≡ r .place
   pub amount : amount-at u c ≡ r .amount .0
   pub others : (d : ℕ) → (d ≡ c → ⊥) → row-part u d ≡ row-part t d
@@ -78,7 +79,7 @@ pub record Row-written (t u : List ℕ) (c : ℕ) (r : Row) : Type 0 where
 -- the numbers of a row are within their bytes
 pub record Row-fits (r : Row) : Type 0 where
   pub level : r .level .0 < 2 ^ 32
-  pub sends : r .sends < 2 ^ 32
+  pub sends : sends-code (r .sends) < 2 ^ 32
   pub place : r .place < 2 ^ 32
   pub amount : r .amount .0 < 2 ^ 64
 

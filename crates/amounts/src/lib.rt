@@ -3,4 +3,6 @@ pub mod answer;
 pub mod draining;
 pub mod passing;
 pub mod rows;
+#[cfg(test)]
+mod tests;
 pub mod theorems;

@@ -5,6 +5,9 @@ ghost use Prim.Native.Nat.{_+_, _≤_};
 ghost use lib.ListN.{length, drop};
 ghost use Rattle.model.specs.Bytes.{four};
 ghost use Rattle.amounts.specs.Row.{row-start, has-row, row-at, bytes-of, put-row, eight};
+use flood::sends::Sends;
+use flood::sends::SendsDebug as _;
+use flood::sends::SendsPartialEq as _;
 use model::units::Amount;
 use model::units::AmountDebug as _;
 use model::units::AmountPartialEq as _;
@@ -27,8 +30,7 @@ const AMOUNT_AT: usize = 12;
 #[derive(Clone, Copy, PartialEq, Eq, Debug)]
 pub struct Row {
     pub level: Height,
-    // The cell that it sends to, or 4,294,967,295 for off the land.
-    pub sends: u32,
+    pub sends: Sends,
     pub place: u32,
     pub amount: Amount,
 }
@@ -40,7 +42,7 @@ impl Row {
     {
         let mut bytes = [0; 20];
         bytes[..SENDS_AT].copy_from_slice(&self.level.0.to_le_bytes());
-        bytes[SENDS_AT..PLACE_AT].copy_from_slice(&self.sends.to_le_bytes());
+        bytes[SENDS_AT..PLACE_AT].copy_from_slice(&self.sends.code().to_le_bytes());
         bytes[PLACE_AT..AMOUNT_AT].copy_from_slice(&self.place.to_le_bytes());
         bytes[AMOUNT_AT..].copy_from_slice(&self.amount.0.to_le_bytes());
         bytes
@@ -103,7 +105,7 @@ pub fn read_row(table: &[u8], cell: Cell) -> Option<Row>
     let part = &table[start..start + ROW_BYTES];
     Some(Row {
         level: Height(read_four(part, 0)),
-        sends: read_four(part, SENDS_AT),
+        sends: Sends::of_code(read_four(part, SENDS_AT)),
         place: read_four(part, PLACE_AT),
         amount: Amount(read_eight(part, AMOUNT_AT)),
     })

@@ -1,4 +1,4 @@
--- One line more.
+-- What is said of one cell more.
 use mathlib.Core.Path.{_≡_, sym, ap, _∙_}
 use mathlib.Core.List.{List, _++_, append-assoc}
 use Prim.Native.Nat.{ℕ, _+_, _<_}
@@ -6,8 +6,12 @@ use native.Mathlib.Numerals.{add-one}
 use borrow.Author.Tests.{lt-ltb}
 use Rattle.std.proofs.shelf.Tests.{cond-true}
 use Rattle.model.specs.Bytes.{count}
-use Rattle.tables.specs.Lines.{if-in, lines}
+use Rattle.amounts.specs.Joined.{joined}
+use Rattle.tables.specs.Lines.{if-in}
 
-pub more : (bs first now after : List ℕ) (line : ℕ → List ℕ) (c : ℕ) → c < count bs → now ≡ first ++ lines line c → after ≡ now ++ if-in bs c (line c) → after ≡ first ++ lines line (c + 1)
-more bs first now after line c a e f =
-    f ∙ (ap (λ t. now ++ t) (cond-true _ _ _ (lt-ltb c (count bs) a)) ∙ (ap (λ t. t ++ line c) e ∙ (append-assoc first (lines line c) (line c) ∙ ap (λ k. first ++ lines line k) (sym (add-one c)))))
+pub joined-more : (first now after : List ℕ) (said : ℕ → List ℕ) (c : ℕ) → now ≡ first ++ joined said c → after ≡ now ++ said c → after ≡ first ++ joined said (c + 1)
+joined-more first now after said c e f = f ∙ (ap (λ t. t ++ said c) e ∙ (append-assoc first (joined said c) (said c) ∙ ap (λ k. first ++ joined said k) (sym (add-one c))))
+
+-- the line of a cell of the model
+pub line-more : (bs first now after : List ℕ) (line : ℕ → List ℕ) (c : ℕ) → c < count bs → now ≡ first ++ joined line c → after ≡ now ++ if-in bs c (line c) → after ≡ first ++ joined line (c + 1)
+line-more bs first now after line c a e f = joined-more first now after line c e (f ∙ ap (λ t. now ++ t) (cond-true _ _ _ (lt-ltb c (count bs) a)))

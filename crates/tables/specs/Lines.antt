@@ -1,7 +1,7 @@
 -- The bytes of the lines that are printed: decimal numbers without leading zeros, one space between words, a newline after each line.
 use mathlib.Core.Bool.{cond}
 use mathlib.Core.List.{List, [], _++_}
-use Prim.Native.Nat.{ℕ, zero, suc}
+use Prim.Native.Nat.{ℕ}
 use lib.Chars.{codes}
 use lib.Dec.{ltb}
 use lib.ListN.{getD}
@@ -9,6 +9,7 @@ use Rattle.std.specs.Written.{decimal}
 use Rattle.model.specs.declared.refusal.Refusal.{Refusal}
 use Rattle.model.specs.Bytes.{count, height-at, rain-at}
 use Rattle.model.specs.Refusals.{number, place}
+use Rattle.amounts.specs.Joined.{joined}
 use Rattle.amounts.specs.Passing.{leaves-at}
 
 -- a refusal
@@ -38,11 +39,6 @@ level-if cell height level = cond (ltb height level) (level-line cell level) []
 abbrev pub exit-if : ℕ → ℕ → ℕ → List ℕ
 exit-if cell rain leaves = cond (ltb rain leaves) (exit-line cell leaves) []
 
--- the lines of the cells below n, in the order of numbers
-abbrev pub lines : (ℕ → List ℕ) → ℕ → List ℕ
-lines line zero = []
-lines line (suc n) = lines line n ++ line n
-
 -- a line, if the model has the cell
 abbrev pub if-in : List ℕ → ℕ → List ℕ → List ℕ
 if-in bs c line = cond (ltb c (count bs)) line []
@@ -57,4 +53,4 @@ exit-of bs flow amounts c = exit-if c (rain-at bs c) (leaves-at flow amounts c)
 -- all lines of a drained model: the first line, then all levels, then all exits
 abbrev pub drain-lines : (bs levels flow amounts : List ℕ) (rain leaves : ℕ) → List ℕ
 drain-lines bs levels flow amounts rain leaves =
-    (summary (count bs) rain leaves ++ lines (level-of bs levels) (count bs)) ++ lines (exit-of bs flow amounts) (count bs)
+    (summary (count bs) rain leaves ++ joined (level-of bs levels) (count bs)) ++ joined (exit-of bs flow amounts) (count bs)

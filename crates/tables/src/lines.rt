@@ -7,7 +7,8 @@ ghost use Rattle.std.specs.Of.String.{string-bytes};
 ghost use Rattle.std.specs.Vec.{made};
 ghost use Rattle.model.specs.Bytes.{count};
 ghost use Rattle.model.specs.OfModel.{bytes-of};
-ghost use Rattle.tables.specs.Lines.{summary, level-line, exit-line, level-if, exit-if, refused-at, refusal-line, if-in, lines, level-of, exit-of, drain-lines};
+ghost use Rattle.amounts.specs.Joined.{joined};
+ghost use Rattle.tables.specs.Lines.{summary, level-line, exit-line, level-if, exit-if, refused-at, refusal-line, if-in, level-of, exit-of, drain-lines};
 use amounts::answer::Drained;
 use amounts::passing::leaves_at;
 use model::land::Model;
@@ -130,7 +131,7 @@ fn push_exit_of(
 
 // The lines of all cells whose level is above their height.
 fn push_levels(out: &mut String, model: &Model<'_>, levels: &[u32]) -> Result<(), AllocError>
-    ensures { λ r. ⌜ made r (λ _. string-bytes (now (out .exit)) ≡ string-bytes (now (out .entry)) ++ lines (level-of (bytes-of (now (model .entry))) (now (levels .entry))) (count (bytes-of (now (model .entry))))) ⌝ }
+    ensures { λ r. ⌜ made r (λ _. string-bytes (now (out .exit)) ≡ string-bytes (now (out .entry)) ++ joined (level-of (bytes-of (now (model .entry))) (now (levels .entry))) (count (bytes-of (now (model .entry))))) ⌝ }
 {
     for c in 0..model.cells() {
         push_level_of(out, model, levels, Cell(c))?;
@@ -145,7 +146,7 @@ fn push_exits(
     flow: &[u32],
     amounts: &[u64],
 ) -> Result<(), AllocError>
-    ensures { λ r. ⌜ made r (λ _. string-bytes (now (out .exit)) ≡ string-bytes (now (out .entry)) ++ lines (exit-of (bytes-of (now (model .entry))) (now (flow .entry)) (now (amounts .entry))) (count (bytes-of (now (model .entry))))) ⌝ }
+    ensures { λ r. ⌜ made r (λ _. string-bytes (now (out .exit)) ≡ string-bytes (now (out .entry)) ++ joined (exit-of (bytes-of (now (model .entry))) (now (flow .entry)) (now (amounts .entry))) (count (bytes-of (now (model .entry))))) ⌝ }
 {
     for c in 0..model.cells() {
         push_exit_of(out, model, flow, amounts, Cell(c))?;

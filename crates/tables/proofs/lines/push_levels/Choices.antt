@@ -2,8 +2,9 @@ use mathlib.Core.Path.{_≡_}
 use mathlib.Core.List.{_++_}
 use Rattle.std.specs.Of.String.{string-bytes}
 use Rattle.model.specs.OfModel.{bytes-of}
-use Rattle.tables.specs.Lines.{lines, level-of}
+use Rattle.amounts.specs.Joined.{joined}
+use Rattle.tables.specs.Lines.{level-of}
 use Rattle.tables.proofs.lines.push_levels.Given as given
 
 abbrev pub Inv-loop-c : given.InvT-loop-c
-Inv-loop-c l = string-bytes (l .out) ≡ string-bytes (l .entry .out) ++ lines (level-of (bytes-of (l .model)) (l .levels)) (l .c)
+Inv-loop-c l = string-bytes (l .out) ≡ string-bytes (l .entry .out) ++ joined (level-of (bytes-of (l .model)) (l .levels)) (l .c)
