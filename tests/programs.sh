@@ -44,11 +44,34 @@ for file in examples/*.bin; do
     check "$file is what examples/make.py writes"
 done
 
-# What is known of the examples.
-run 0 $bin/drain examples/spill.bin && out 'cells 9 rain 9\n'
+# The small examples, whole: their lines were worked out by hand.
+run 0 $bin/drain examples/hollow.bin && out 'cells 9 rain 9 leaves 9\nlevel 4 5\nexit 1 amount 2\n'
+check "drain examples/hollow.bin"
+run 0 $bin/drain examples/spill.bin && out 'cells 9 rain 9 leaves 9\nlevel 4 3\nexit 5 amount 2\n'
 check "drain examples/spill.bin"
-run 0 $bin/drain examples/single.bin && out 'cells 1 rain 1\n'
+run 0 $bin/drain examples/single.bin && out 'cells 1 rain 1 leaves 1\n'
 check "drain examples/single.bin"
+run 0 $bin/drain examples/sill.bin && out 'cells 15 rain 15 leaves 15\nlevel 6 7\nlevel 8 4\nexit 9 amount 4\n'
+check "drain examples/sill.bin"
+
+# Sums and levels of every example beside a slow search.
+for file in examples/*.bin; do
+    python3 tests/levels.py "$file" >"$scratch/levels"
+    run 0 $bin/drain "$file" && grep -v '^exit ' "$scratch/out" | cmp -s - "$scratch/levels"
+    check "drain $file has the levels of a slow search"
+done
+
+# A table: 20 bytes a cell; that of the single cell is level 4, off, place 0, amount 1.
+run 0 $bin/drain examples/single.bin "$scratch/table" && printf '\004\000\000\000\377\377\377\377\000\000\000\000\001\000\000\000\000\000\000\000' | cmp -s - "$scratch/table"
+check "drain writes the table of a single cell"
+run 0 $bin/drain examples/valley.bin "$scratch/table" && [ "$(wc -c <"$scratch/table")" -eq 48000 ] && [ ! -e "$scratch/table.part" ]
+check "drain writes a table of 20 bytes a cell over an old one"
+cp "$scratch/table" "$scratch/before"
+printf '\001' >"$scratch/short"
+run 1 $bin/drain "$scratch/short" "$scratch/table" && out 'refused 1 at 1\n' && cmp -s "$scratch/table" "$scratch/before"
+check "a refused model leaves an old table as it was"
+run 1 $bin/drain examples/spill.bin "$scratch/none/table" && [ ! -s "$scratch/out" ] && grep -q "^drain: cannot write $scratch/none/table: " "$scratch/err"
+check "drain names a table that it cannot write, and prints nothing"
 
 # Usage, and files that cannot be read.
 run 0 $bin/drain --help && grep -q '^usage: drain MODEL' "$scratch/out"
