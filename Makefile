@@ -4,8 +4,8 @@
 
 run:
 	@sh tests/need.sh rt
-	rt check drain >target.log 2>&1 || { tail -n 20 target.log; rm -f target.log; exit 1; }
-	@rm -f target.log
+	@echo "proving and building drain; the first time takes some minutes"
+	@log=$$(mktemp) && { rt check drain >"$$log" 2>&1 || { tail -n 20 "$$log"; rm -f "$$log"; exit 1; }; } && rm -f "$$log"
 	target/bin/drain examples/valley.bin
 
 test:
