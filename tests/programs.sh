@@ -73,6 +73,16 @@ check "a refused model leaves an old table as it was"
 run 1 $bin/drain examples/spill.bin "$scratch/none/table" && [ ! -s "$scratch/out" ] && grep -q "^drain: cannot write $scratch/none/table: " "$scratch/err"
 check "drain names a table that it cannot write, and prints nothing"
 
+# Basins: of the hollow's nine cells the middle one leaves at cell 1; a refused model is refused here too.
+run 0 $bin/drain --basins examples/hollow.bin && out 'exit 0 cells 1 amount 1\nexit 1 cells 2 amount 2\nexit 2 cells 1 amount 1\nexit 3 cells 1 amount 1\nexit 5 cells 1 amount 1\nexit 6 cells 1 amount 1\nexit 7 cells 1 amount 1\nexit 8 cells 1 amount 1\n'
+check "drain --basins examples/hollow.bin"
+run 0 $bin/drain --basins examples/sill.bin && grep -qx 'exit 9 cells 4 amount 4' "$scratch/out" && [ "$(wc -l <"$scratch/out")" -eq 12 ]
+check "drain --basins examples/sill.bin"
+run 0 $bin/drain --basins examples/valley.bin && awk '{ c += $4; a += $6 } END { exit !(c == 2400 && a == 300000) }' "$scratch/out"
+check "the basins of the valley have all its cells and all its rain"
+run 1 $bin/drain --basins "$scratch/short" && out 'refused 1 at 1\n'
+check "drain --basins refuses a short file"
+
 # Usage, and files that cannot be read.
 run 0 $bin/drain --help && grep -q '^usage: drain MODEL' "$scratch/out"
 check "drain --help prints its usage"

@@ -1,0 +1,9 @@
+pub mod Exits
+pub mod Basins
+pub mod Following
+pub mod Walking
+pub mod Bounding
+pub mod Steps
+pub mod Counts
+pub mod Drained
+pub mod Listing
