@@ -83,6 +83,40 @@ check "the basins of the valley have all its cells and all its rain"
 run 1 $bin/drain --basins "$scratch/short" && out 'refused 1 at 1\n'
 check "drain --basins refuses a short file"
 
+# The largest models, with no rain and with all the rain that a model may have.
+python3 tests/full.py 0 "$scratch/dry" && python3 tests/full.py 1000000 "$scratch/wet" || exit 1
+run 0 $bin/drain "$scratch/dry" && [ "$(head -n 1 "$scratch/out")" = 'cells 160000 rain 0 leaves 0' ] && ! grep -q '^exit ' "$scratch/out"
+check "drain 400 by 400 without rain"
+run 0 $bin/drain "$scratch/wet" "$scratch/table" && [ "$(head -n 1 "$scratch/out")" = 'cells 160000 rain 160000000000 leaves 160000000000' ]
+check "drain 400 by 400 with rain 1,000,000 everywhere"
+run 0 $bin/drain --basins "$scratch/wet" && awk '{ c += $4; a += $6 } END { exit !(c == 160000 && a == 160000000000) }' "$scratch/out"
+check "the basins of the largest model have all its cells and all its rain"
+
+# Tables: those that drain writes are accepted; others by the conditions alone, the first fault first.
+run 0 $bin/check "$scratch/wet" "$scratch/table" && out 'accepted\n'
+check "check accepts the table of the largest model"
+run 1 $bin/check "$scratch/dry" "$scratch/table" && out 'refused 9 at 0\n'
+check "check refuses a table that was made for other rain"
+for file in examples/*.bin; do
+    run 0 $bin/drain "$file" "$scratch/table" && run 0 $bin/check "$file" "$scratch/table" && out 'accepted\n'
+    check "check accepts the table of $file"
+done
+python3 tests/tables.py "$scratch/tables" || exit 1
+for file in "$scratch"/tables/*.table; do
+    answer="${file%.table}.txt"
+    status=1
+    grep -q '^accepted$' "$answer" && status=0
+    cp "$file" "$scratch/before"
+    run $status $bin/check examples/hollow.bin "$file" && cmp -s "$scratch/out" "$answer" && [ ! -s "$scratch/err" ] && cmp -s "$file" "$scratch/before"
+    check "check says $(cat "$answer") ($file)"
+done
+run 1 $bin/check "$scratch/short" "$scratch/table" && out 'refused 1 at 1\n'
+check "check refuses a short model before it looks at the table"
+run 1 $bin/check examples/spill.bin "$scratch/none" && [ ! -s "$scratch/out" ] && grep -q "^check: cannot read $scratch/none: " "$scratch/err"
+check "check names a table that is not there"
+run 0 $bin/check --help && grep -q '^usage: check MODEL TABLE' "$scratch/out"
+check "check --help prints its usage"
+
 # Usage, and files that cannot be read.
 run 0 $bin/drain --help && grep -q '^usage: drain MODEL' "$scratch/out"
 check "drain --help prints its usage"

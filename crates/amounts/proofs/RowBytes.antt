@@ -52,6 +52,24 @@ eight-back v small =
     let high = four-back (v / 4294967296) in
     omega arith
 
+-- the values in the bytes of a row
+pub record Row-values (p : List ℕ) (level sends place amount : ℕ) : Type 0 where
+  pub in-level : four p ≡ level
+  pub in-sends : four (drop 4 p) ≡ sends
+  pub in-place : four (drop 8 p) ≡ place
+  pub in-amount : eight (drop 12 p) ≡ amount
+  pub long : length p ≡ 20
+
+pub row-back : (level sends place amount : ℕ) → level < 2 ^ 32 → sends < 2 ^ 32 → place < 2 ^ 32 → amount < 2 ^ 64 → Row-values (row-bytes level sends place amount) level sends place amount
+unfolding four row-bytes
+row-back level sends place amount a b c d = record {
+  in-level = four-back level ∙ omega arith;
+  in-sends = four-back sends ∙ omega arith;
+  in-place = four-back place ∙ omega arith;
+  in-amount = eight-back amount d;
+  long = refl;
+}
+
 -- the bytes of a large number one by one
 pub eight-bytes-are : (v : ℕ) →
     eight-bytes v ≡
@@ -106,15 +124,15 @@ other-row t bs c d fits size ne =
     row-byte u d k e a ∙ (put-outside t bs c (row-start d + k) e fits size (grind arith) ∙ sym (row-byte t d k e a)))
 
 pub rows-read-back : Rows-read-back
-unfolding four row-bytes
 rows-read-back t c r fits small =
     let bs = bytes-of r in
-    let here : row-part (put-row t c bs) c ≡ bs = this-row t bs c fits refl in
+    let back = row-back (r .level .0) (sends-code (r .sends)) (r .place) (r .amount .0) (small .level) (small .sends) (small .place) (small .amount) in
+    let here : row-part (put-row t c bs) c ≡ bs = this-row t bs c fits (back .long) in
     record {
-      level = ap four here ∙ (four-back (r .level .0) ∙ omega (arith, small .level));
-      sends = ap (λ p. four (drop 4 p)) here ∙ (four-back (sends-code (r .sends)) ∙ omega (arith, small .sends));
-      place = ap (λ p. four (drop 8 p)) here ∙ (four-back (r .place) ∙ omega (arith, small .place));
-      amount = ap (λ p. eight (drop 12 p)) here ∙ eight-back (r .amount .0) (small .amount);
-      others = λ d ne. other-row t bs c d fits refl ne;
-      long = put-length t bs c fits refl;
+      level = ap four here ∙ back .in-level;
+      sends = ap (λ p. four (drop 4 p)) here ∙ back .in-sends;
+      place = ap (λ p. four (drop 8 p)) here ∙ back .in-place;
+      amount = ap (λ p. eight (drop 12 p)) here ∙ back .in-amount;
+      others = λ d ne. other-row t bs c d fits (back .long) ne;
+      long = put-length t bs c fits (back .long);
     }
