@@ -8,40 +8,53 @@ import struct
 import sys
 
 
-def main():
-    with open(sys.argv[1], "rb") as file:
-        data = file.read()
-    width, rows = struct.unpack_from("<HH", data)
-    count = width * rows
-    cells = [struct.unpack_from("<IIB", data, 4 + 9 * c) for c in range(count)]
+class Model:
+    """A model that is known to be well formed, from the bytes of its file."""
 
-    def outlet(c):
-        x, y = c % width, c // width
-        return x in (0, width - 1) or y in (0, rows - 1) or cells[c][2] == 1
+    def __init__(self, data):
+        self.width, self.rows = struct.unpack_from("<HH", data)
+        self.count = self.width * self.rows
+        cells = [struct.unpack_from("<IIB", data, 4 + 9 * c) for c in range(self.count)]
+        self.heights = [cell[0] for cell in cells]
+        self.rain = [cell[1] for cell in cells]
+        self.drains = [cell[2] == 1 for cell in cells]
 
-    def around(c):
-        x, y = c % width, c // width
+    def outlet(self, c):
+        x, y = c % self.width, c // self.width
+        return x in (0, self.width - 1) or y in (0, self.rows - 1) or self.drains[c]
+
+    def around(self, c):
+        """The neighbours up, left, right and down."""
+        x, y = c % self.width, c // self.width
         return [
-            b * width + a
+            b * self.width + a
             for a, b in ((x, y - 1), (x - 1, y), (x + 1, y), (x, y + 1))
-            if 0 <= a < width and 0 <= b < rows
+            if 0 <= a < self.width and 0 <= b < self.rows
         ]
 
-    levels = [cells[c][0] if outlet(c) else 1 << 32 for c in range(count)]
+
+def lowest_levels(model):
+    levels = [model.heights[c] if model.outlet(c) else 1 << 32 for c in range(model.count)]
     changed = True
     while changed:
         changed = False
-        for c in range(count):
-            if not outlet(c):
-                lower = max(cells[c][0], min(levels[d] for d in around(c)))
+        for c in range(model.count):
+            if not model.outlet(c):
+                lower = max(model.heights[c], min(levels[d] for d in model.around(c)))
                 if lower < levels[c]:
                     levels[c] = lower
                     changed = True
+    return levels
 
-    rain = sum(cell[1] for cell in cells)
-    print(f"cells {count} rain {rain} leaves {rain}")
-    for c in range(count):
-        if levels[c] > cells[c][0]:
+
+def main():
+    with open(sys.argv[1], "rb") as file:
+        model = Model(file.read())
+    levels = lowest_levels(model)
+    rain = sum(model.rain)
+    print(f"cells {model.count} rain {rain} leaves {rain}")
+    for c in range(model.count):
+        if levels[c] > model.heights[c]:
             print(f"level {c} {levels[c]}")
 
 

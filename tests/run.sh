@@ -18,4 +18,6 @@ fi
 
 sh tests/programs.sh "$scratch" || exit 1
 tested=$(cat "$scratch/count") || exit 1
-echo "$((proved + tested)) passed, 0 failed"
+compared=$(python3 -B tests/random_models.py target/bin "$scratch/random") || exit 1
+echo "$compared comparisons on random models agree"
+echo "$((proved + tested + compared)) passed, 0 failed"
