@@ -6,7 +6,9 @@ ghost use lib.ListN.{length};
 ghost use Rattle.std.specs.Of.String.{string-bytes};
 ghost use Rattle.std.specs.Results.{Cases};
 ghost use Rattle.std.specs.Vec.{made};
+ghost use Rattle.std.specs.declared.option.Option.the-variants.{None};
 ghost use Rattle.model.specs.Bytes.{count};
+ghost use Rattle.model.specs.Faults.{fault};
 ghost use Rattle.model.specs.OfModel.{bytes-of};
 ghost use Rattle.amounts.specs.Joined.{joined};
 ghost use Rattle.basins.specs.Parting.{basin-at};
@@ -88,7 +90,7 @@ fn parted_into(
 
 // The lines of the basins of the model in the bytes of a file, or why there are none.
 pub fn parted(heap: Global, bytes: &[u8]) -> Result<String, Failure>
-    ensures { λ r. ⌜ Cases r (λ s. string-bytes s ≡ basins-text (now (bytes .entry))) (λ f. Fails (now (bytes .entry)) f) ⌝ }
+    ensures { λ r. ⌜ Cases r (λ s. (fault (now (bytes .entry)) ≡ None) × (string-bytes s ≡ basins-text (now (bytes .entry)))) (λ f. Fails (now (bytes .entry)) f) ⌝ }
 {
     let grid = read(bytes)?;
     let n = grid.cells() as usize;

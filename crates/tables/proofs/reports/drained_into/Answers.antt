@@ -4,6 +4,8 @@ use Prim.Native.Nat.{_-_, _*_}
 use native.Mathlib.Omega.{arith}
 use lib.ListN.{length, length-take, length-drop}
 use Rattle.model.proofs.Taken.{well-formed}
+use Rattle.checker.specs.Faults.{check-fault}
+use Rattle.checker.proofs.DrainedTable.{drained-accepted}
 use Rattle.tables.specs.Lines.{drain-lines}
 use Rattle.tables.proofs.Told.{told, none-refused, places-end, rows-told, places-low}
 use Rattle.tables.proofs.reports.drained_into.Needs as need
@@ -33,8 +35,11 @@ returns c =
     let n = length (c .args .levels .now) in
     let d = c .in-Continue-answer .answer in
     let promise = c .in-Continue-answer .ensures tt .after in
+    let wf = well-formed bs (p .taken) in
+    let rows = rows-told bs _ _ _ _ _ _ _ (c .drain .last .work) _ (3 * n - 2 * n) (2 * n) _ wf promise (p .levels) (p .flow) (p .amounts) (p .work) (omega (arith, p .levels)) (omega (arith, p .levels)) (c .in-Continue-table .ensures tt) in
     record {
       lines = told bs _ _ _ _ _ _ _ _ _ _ promise (p .levels) (p .flow) (p .amounts)
           (c .in-Continue-text .ensures tt ∙ ap (λ b. drain-lines b (c .drain .last .levels) (c .drain .last .flow) (c .drain .last .amounts) (d .rain .0) (d .leaves .0)) (c .new .ensures .bytes));
-      rows = rows-told bs _ _ _ _ _ _ _ (c .drain .last .work) _ (3 * n - 2 * n) (2 * n) _ (well-formed bs (p .taken)) promise (p .levels) (p .flow) (p .amounts) (p .work) (omega (arith, p .levels)) (omega (arith, p .levels)) (c .in-Continue-table .ensures tt);
+      rows = rows;
+      accepted = ap (check-fault bs) rows ∙ drained-accepted bs wf;
     }
