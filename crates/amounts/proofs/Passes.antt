@@ -1,5 +1,5 @@
 -- The loop that passes amounts on, from the last place to the first, over the table of a model.
-use Rattle.std.proofs.Common.{◌≡◌, ℕ, suc, ◌+◌, ◌-◌, ◌*◌, ◌^◌, ◌<◌, ◌≤◌, false, eqb, List, length, get_or, sym, refl, ap, ◌∙◌, subst, arith}
+use Rattle.std.proofs.Common.{◌≡◌, ℕ, suc, ◌+◌, ◌-◌, ◌^◌, ◌<◌, ◌≤◌, false, eqb, List, length, get_or, sym, ap, ◌∙◌, subst, arith}
 use Rattle.std.proofs.lemmas.List.FromFn.{length-map-range_with_len}
 use Rattle.model.specs.Bytes.{count}
 use Rattle.model.specs.Terrain.{terrain, land}
@@ -11,8 +11,7 @@ use Rattle.flood.proofs.Models.{models_right}
 use Rattle.flood.proofs.Turns.{sound, small, table_long}
 use Rattle.amounts.specs.Accumulation.{OrderedFlow, passed_on, accumulated, rains}
 use Rattle.amounts.specs.Amounts.{all_rain}
-use Rattle.amounts.specs.Passing.{table_amounts}
-use Rattle.amounts.proofs.Accumulating.{run_ordered, rule_keeps_length, rule_stays_below, rule_sums_fit}
+use Rattle.amounts.proofs.Accumulating.{run_ordered, rule_keeps_length, rule_sums_fit}
 use Rattle.amounts.proofs.Carrying.{rain_bounded}
 
 -- what the program needs before a cell passes its amount on

@@ -1,21 +1,19 @@
 -- What draining a model leaves and answers, from what the flood wrote.
-use Rattle.std.proofs.Common.{◌≡◌, ℕ, ◌+◌, ◌-◌, ◌*◌, ◌<◌, ◌≤◌, true, cond, ◌&&◌, eqb, ltb, List, ◌++◌, length, get_or, take, drop, Some, None, sym, refl, ap, ◌∙◌, subst, ap₂, arith, lt-ltb}
+use Rattle.std.proofs.Common.{◌≡◌, ℕ, ◌*◌, ◌<◌, ◌≤◌, List, ◌++◌, length, take, drop, Some, None, sym, refl, ap, ◌∙◌, arith, lt-ltb}
 use Rattle.std.proofs.lemmas.List.FromFn.{length-map-range_with_len}
 use Rattle.std.proofs.lemmas.List.{take_at, drop_at}
 use Rattle.std.proofs.lemmas.Bool.Decides.{nat_tests}
 use Rattle.model.specs.declared.refusal.Refusal.{Refusal}
 use Rattle.model.specs.Bytes.{count}
-use Rattle.model.specs.Terrain.{terrain, land}
+use Rattle.model.specs.Terrain.{land}
 use Rattle.model.specs.WellFormed.{WellFormed}
 use Rattle.flood.specs.Flooded.{too_short, table_of, Written, Flooded}
-use Rattle.flood.specs.Run.{none, flow_of}
-use Rattle.flood.specs.Sums.{sum}
 use Rattle.flood.proofs.Sums.{sum_same}
 use Rattle.flood.proofs.Turns.{table_long}
 use Rattle.amounts.specs.declared.answer.Drained.{Drained}
 use Rattle.amounts.specs.Accumulation.{rains}
 use Rattle.amounts.specs.Draining.{room_fault}
-use Rattle.amounts.specs.Amounts.{Carried, Acyclic, all_rain, leaving, all_off}
+use Rattle.amounts.specs.Amounts.{Carried, all_rain, leaving, all_off}
 use Rattle.amounts.specs.Passing.{leaves_at, all_leaves, table_amounts}
 use Rattle.amounts.specs.Promise.{flow_in, amount_in, Promise}
 use Rattle.amounts.proofs.Accumulating.{rule_keeps_length, rule_adds_up, rule_stays_below}

@@ -1,5 +1,5 @@
 -- The rain on the cells of a model.
-use Rattle.std.proofs.Common.{◌≡◌, ℕ, ◌+◌, ◌*◌, ◌<◌, ◌≤◌, cond, ◌&&◌, eqb, ltb, List, length, get_or, sym, ap, ◌∙◌, add-one, arith, lt-ltb}
+use Rattle.std.proofs.Common.{◌≡◌, ℕ, ◌+◌, ◌<◌, ◌≤◌, cond, ◌&&◌, eqb, ltb, List, length, get_or, ap, ◌∙◌, add-one, arith, lt-ltb}
 use Rattle.std.proofs.lemmas.Bool.{cond-true, cond_both}
 use Rattle.model.specs.Bytes.{count}
 use Rattle.model.specs.Terrain.{land}

@@ -2,11 +2,11 @@
 use Rattle.std.proofs.Common.{◌≡◌, ℕ, ◌+◌, ◌-◌, ◌*◌, ◌/◌, ◌%◌, ◌^◌, ◌<◌, ◌≤◌, ◌⊎◌, List, [], ◌∷◌, ◌++◌, length, get_or, take, drop, sym, refl, ap, ◌∙◌, inl, inr, arith, rules}
 use native.Mathlib.Nat.{div-div-eq-div-mul}
 use borrow.Rule.Slice.PartMut.{put_mid}
-use Rattle.std.proofs.lemmas.List.{get_or-drop, length-take, length-take-le, length-append, length-drop, take_at, drop_at, drop-drop, places, same_lists, get_or-take, get_or_append_left, get_or-append_right}
+use Rattle.std.proofs.lemmas.List.{get_or-drop, length-take, length-take-le, length-drop, take_at, drop_at, drop-drop, places, same_lists, get_or-take, get_or_append_left, get_or-append_right}
 use Rattle.std.proofs.lemmas.Bool.{cases_lt}
 use Rattle.model.specs.Bytes.{four}
 use Rattle.flood.specs.Sent.{sends_code}
-use Rattle.amounts.specs.Row.{four_bytes, eight_bytes, eight, row_bytes, row_start, row_part, bytes_of, put_row, RowFits, RowsReadBack}
+use Rattle.amounts.specs.Row.{four_bytes, eight_bytes, eight, row_bytes, row_start, row_part, bytes_of, put_row, RowsReadBack}
 
 -- the number in the four bytes from a place on, by its bytes
 pub four_from : (xs : List ℕ) (k : ℕ) → four (drop k xs) ≡ get_or xs k 0 + get_or xs (k + 1) 0 * 256 + get_or xs (k + 2) 0 * 65536 + get_or xs (k + 3) 0 * 16777216

@@ -1,5 +1,5 @@
 -- What the code of the amounts reads in lists.
-use Rattle.std.specs.Prelude.{◌≡◌, ℕ, ◌+◌, ◌<◌, cond, ◌&&◌, List, length, ◌==◌, nat_lt, slice_index}
+use Rattle.std.specs.Prelude.{ℕ, cond, ◌&&◌, List, length, ◌==◌, nat_lt, slice_index}
 use Rattle.model.specs.Terrain.{land}
 use Rattle.flood.specs.Flooded.{table_of}
 use Rattle.flood.specs.Run.{none}

@@ -1,4 +1,6 @@
 // Exits and basins: where each cell's water leaves the land.
+#![tactic(auto)]
+
 pub mod draining;
 pub mod parting;
 pub mod short;

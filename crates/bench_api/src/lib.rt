@@ -1,4 +1,6 @@
 // The proved drain and a row of changes as C calls them, for the benchmark: slices in, plain numbers out.
+#![tactic(auto)]
+
 ghost use Rattle.std.specs.Prelude.{◌≡◌, MatchOption};
 ghost use Rattle.amounts.specs.Draining.{drain_fault, Unchanged};
 ghost use Rattle.amounts.specs.Promise.{Promise};

@@ -1,5 +1,8 @@
 // change: applies a row of changes to a model, prints what comes of each, and writes the changed model and its table.
+#![tactic(auto)]
+
 use cli::Failed;
+use std::process::ExitCode;
 use tables::changing::changed;
 
 const USAGE: &str =
@@ -40,6 +43,6 @@ fn run(rt: &HostRuntime) -> Result<(), Failed> {
     }
 }
 
-fn main(rt: HostRuntime) -> Result<(), Failed> {
-    run(&rt)
+fn main(rt: HostRuntime) -> ExitCode {
+    cli::status_of(run(&rt))
 }

@@ -1,5 +1,5 @@
 -- What an allowed change does to a well-formed file.
-use Rattle.std.proofs.Common.{◌≡◌, ℕ, ◌+◌, ◌*◌, ◌<◌, ◌≤◌, Bool, true, false, cond, ◌&&◌, ◌||◌, eqb, ltb, leb, ◌⊎◌, List, length, get_or, Some, None, Option, sym, refl, ap, ◌∙◌, subst, ap₂, inl, inr, arith}
+use Rattle.std.proofs.Common.{◌≡◌, ℕ, ◌+◌, ◌*◌, ◌<◌, ◌≤◌, Bool, true, cond, ◌&&◌, ◌||◌, eqb, ltb, leb, ◌⊎◌, List, get_or, Some, None, Option, sym, refl, ap, ◌∙◌, subst, ap₂, inl, inr, arith}
 use mathlib.Core.Path.{fun_ext}
 use Rattle.std.proofs.lemmas.Bool.{cases_Bool, cases_lt}
 use Rattle.std.proofs.lemmas.Bool.Decides.{nat_tests}
@@ -7,17 +7,13 @@ use Rattle.model.specs.declared.grid.Grid.{Grid}
 use Rattle.model.specs.declared.units.Cell.{Cell}
 use Rattle.model.specs.Bytes.{columns, rows, count, start, height_at, rain_at, mark_at}
 use Rattle.model.specs.Edits.{put_four, fits_cell, but, Rewritten}
-use Rattle.model.specs.Faults.{fault}
 use Rattle.model.specs.Grid.{border, neighbours, four_sides}
 use Rattle.model.specs.Of.{Sized}
-use Rattle.model.specs.Terrain.{terrain}
 use Rattle.model.specs.WellFormed.{WellFormed}
-use Rattle.model.proofs.Taken.{well_formed, taken}
-use Rattle.model.proofs.Writes.{word, height_is, mark_is, heights_read_back, rains_read_back, marks_read_back}
-use Rattle.flood.specs.Fair.{model_ground}
+use Rattle.model.proofs.Writes.{height_is, mark_is, heights_read_back, rains_read_back, marks_read_back}
 use Rattle.flood.specs.Flooded.{table_of}
 use Rattle.flood.specs.Run.{Ground, table}
-use Rattle.changes.specs.Applied.{allowed, edited, accepted, changed_by}
+use Rattle.changes.specs.Applied.{allowed, edited, changed_by}
 use Rattle.changes.specs.declared.asked.Change.{Change}
 use Rattle.changes.specs.declared.asked.Change.TheVariants.{Height, Rain, Drain}
 

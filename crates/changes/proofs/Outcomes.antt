@@ -12,7 +12,7 @@ use Rattle.changes.specs.declared.answer.Changed.{Changed}
 use Rattle.changes.specs.declared.asked.Change.{Change}
 use Rattle.changes.specs.declared.asked.Change.TheVariants.{Rain}
 use Rattle.changes.specs.Applied.{allowed, edited, changed_by, leaves_in, levels_between, outcome}
-use Rattle.changes.proofs.Edits.{Kept, cell_fits, edited_kept, kept_sized}
+use Rattle.changes.proofs.Edits.{cell_fits, edited_kept, kept_sized}
 
 -- refused: nothing comes of it, and the bytes stay
 pub record Refusing (bs : List ℕ) (x : Change) : Type 0 where

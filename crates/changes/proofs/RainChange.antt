@@ -1,10 +1,9 @@
 -- What is known where the rain of one cell was changed in the bytes, and the slices still hold the table before.
-use Rattle.std.proofs.Common.{◌≡◌, ℕ, ◌+◌, ◌<◌, ◌≤◌, true, cond, eqb, List, ◌++◌, length, get_or, take, drop, sym, refl, ap, ◌∙◌, subst, ap₂, arith}
+use Rattle.std.proofs.Common.{◌≡◌, ℕ, ◌+◌, ◌<◌, ◌≤◌, cond, eqb, List, ◌++◌, length, get_or, take, sym, ap, ◌∙◌, subst, ap₂, arith}
 use Rattle.std.proofs.lemmas.List.{take_at}
-use Rattle.std.proofs.lemmas.Bool.{cases_eq}
 use Rattle.std.proofs.lemmas.Bool.Decides.{nat_tests}
 use Rattle.model.specs.Bytes.{count, start, rain_at}
-use Rattle.model.specs.Edits.{put_four, but}
+use Rattle.model.specs.Edits.{put_four}
 use Rattle.model.specs.Land.{Land}
 use Rattle.model.specs.Terrain.{land}
 use Rattle.model.specs.WellFormed.{WellFormed}
@@ -23,7 +22,7 @@ use Rattle.amounts.proofs.Promised.{long_amounts, amounts_low, carried}
 use Rattle.amounts.proofs.Sums.{sum_more}
 use Rattle.changes.specs.Applied.{leaves_in}
 use Rattle.changes.specs.Moved.{OffAt}
-use Rattle.changes.proofs.Edits.{Kept, kept_count, rain_rewritten, rain_keeps_table}
+use Rattle.changes.proofs.Edits.{kept_count, rain_rewritten, rain_keeps_table}
 
 -- where the rain of c alone is another, the old amounts add up but at c
 off_begins : (l m : Land) (f : Flow) (g : ℕ → ℕ) (c old new : ℕ) → m.cells ≡ l.cells → c < l.cells → Carried l f g → l.rain c ≡ old → m.rain c ≡ new →

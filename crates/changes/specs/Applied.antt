@@ -1,5 +1,5 @@
 -- What changes do to the bytes of a model, and what is answered to each.
-use Rattle.std.specs.Prelude.{◌≡◌, ℕ, zero, suc, ◌+◌, Bool, true, false, cond, ◌&&◌, List, ◌++◌, drop, Some, None, Option, nat_le, nat_lt, slice_index_or, slice_set}
+use Rattle.std.specs.Prelude.{◌≡◌, ℕ, zero, suc, ◌+◌, Bool, false, cond, ◌&&◌, List, ◌++◌, drop, Some, None, Option, nat_le, nat_lt, slice_index_or, slice_set}
 use Rattle.model.specs.declared.refusal.Refusal.TheVariants.{Change as RefusedChange}
 use Rattle.model.specs.Bytes.{count, start}
 use Rattle.model.specs.Edits.{put_four}

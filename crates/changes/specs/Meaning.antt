@@ -1,5 +1,5 @@
 -- What changes mean for a model, in words that are not the program's.
-use Rattle.std.specs.Prelude.{◌≡◌, ℕ, ◌+◌, ◌<◌, ◌≤◌, true, false, cond, List, Some, None, Option}
+use Rattle.std.specs.Prelude.{◌≡◌, ℕ, ◌+◌, ◌<◌, ◌≤◌, true, false, cond, List, Some, Option}
 use Rattle.model.specs.declared.units.Amount.{Amount}
 use Rattle.model.specs.declared.units.Cell.{Cell}
 use Rattle.model.specs.Bytes.{columns, rows, count, start, height_at, rain_at, mark_at}
@@ -12,7 +12,7 @@ use Rattle.amounts.specs.Amounts.{all_rain}
 use Rattle.changes.specs.declared.asked.Asked.{Asked}
 use Rattle.changes.specs.declared.asked.Change.{Change}
 use Rattle.changes.specs.declared.asked.Change.TheVariants.{Height, Rain, Drain}
-use Rattle.changes.specs.Applied.{allowed, edited, accepted, changed_by, leaves_in, levels_between, bytes_after}
+use Rattle.changes.specs.Applied.{allowed, accepted, changed_by, leaves_in, levels_between, bytes_after}
 
 -- the cell of a change exists, and its value is in range
 abbrev pub InRange : List ℕ → Change → Type 0

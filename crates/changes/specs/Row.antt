@@ -1,5 +1,5 @@
 -- What a row of changes leaves and answers.
-use Rattle.std.specs.Prelude.{◌≡◌, ℕ, List, map, length, Some, None, vec_items, Vec}
+use Rattle.std.specs.Prelude.{◌≡◌, ℕ, List, map, length, Some, None}
 use Rattle.std.specs.List.{range_with_len}
 use Rattle.model.specs.Bytes.{count}
 use Rattle.model.specs.Terrain.{land}

@@ -1,4 +1,6 @@
 // Changes of a model: a row of changes as text, read, and applied to a model and its table.
+#![tactic(auto)]
+
 pub mod answer;
 mod applying;
 pub mod asked;

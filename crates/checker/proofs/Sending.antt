@@ -1,6 +1,6 @@
 -- Where a cell of a table sends: each way to find it right or wrong.
-use Rattle.std.proofs.Common.{◌≡◌, ℕ, ◌+◌, Bool, true, false, not, ◌&&◌, ◌||◌, eqb, ltb, List, [], ◌∷◌, ◌++◌, sym, refl, ap, ◌∙◌, ap₂, inl, inr, arith, ne_eqb}
-use Rattle.std.proofs.lemmas.Bool.{cases_Bool, both_ways, not-true, not-false, and_left, and_from, or_left, or_from}
+use Rattle.std.proofs.Common.{◌≡◌, ℕ, ◌+◌, true, false, not, ◌&&◌, ◌||◌, eqb, ltb, List, [], ◌∷◌, ◌++◌, sym, refl, ap, ◌∙◌, ap₂, inl, inr, arith, ne_eqb}
+use Rattle.std.proofs.lemmas.Bool.{cases_Bool, not-true, not-false, eqb-true, eqb-false, and_left, and_from, or_left, or_from}
 use Rattle.model.specs.declared.units.Cell.{Cell}
 use Rattle.model.specs.Bytes.{columns, rows, count}
 use Rattle.model.specs.Grid.{among}
@@ -28,11 +28,11 @@ code_to k d e = elim (cases_Bool (eqb k none)) [
 ]
 
 -- two cells or two levels that the code finds different, or equal
-pub found_other : (a b : ℕ) (x : Bool) → (a ≡ b → x ≡ true) → true ≡ not x → a ≡ b → ⊥
-found_other a b x p e h = both_ways x (not-true x (sym e)) (p h)
+pub found_other : (a b : ℕ) → true ≡ not (eqb a b) → a ≡ b → ⊥
+found_other a b e = eqb-false a b (not-true (eqb a b) (sym e))
 
-pub found_same : (a b : ℕ) (x : Bool) → (x ≡ true → a ≡ b) → false ≡ not x → a ≡ b
-found_same a b x p e = p (not-false x (sym e))
+pub found_same : (a b : ℕ) → false ≡ not (eqb a b) → a ≡ b
+found_same a b e = eqb-true a b (not-false (eqb a b) (sym e))
 
 module _ (bs t : List ℕ) (c : ℕ) where
   pub off_wrong : off_ok (land bs) (flow_from t) c ≡ false → sends_ok (land bs) (flow_from t) c ≡ false

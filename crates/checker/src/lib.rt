@@ -1,4 +1,6 @@
 // Tables from anybody: accepted exactly when they are right.
+#![tactic(auto)]
+
 pub mod checking;
 #[cfg(test)]
 mod tests;

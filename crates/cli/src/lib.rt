@@ -1,13 +1,29 @@
 // What every program does alike: its arguments, its files, its refusals and its errors.
+#![tactic(auto)]
+
+ghost use Rattle.std.specs.Prelude.{◌≡◌, OnOk, OnErr};
+
 use changes::failure::Failure;
 use std::fs::File;
 use std::io::Write;
+use std::process::ExitCode;
 use std::{env, fs, io};
 use tables::lines::refusal_line;
 
 // The program has said what is wrong, and ends with status 1.
 #[derive(Debug, Drop)]
 pub struct Failed;
+
+// A program's exit status. What went wrong is printed already, so a program ends with this and not with the error itself.
+pub fn status_of(done: Result<(), Failed>) -> ExitCode
+    ensures ok { OnOk done (result ≡ ExitCode.SUCCESS) }
+    ensures err { OnErr done (result ≡ ExitCode.FAILURE) }
+{
+    match done {
+        Ok(()) => ExitCode::SUCCESS,
+        Err(Failed) => ExitCode::FAILURE,
+    }
+}
 
 // The words behind the program's name.
 pub fn arguments(rt: &HostRuntime, program: &str) -> Result<Vec<String>, Failed> {

@@ -1,5 +1,8 @@
 // drain: drains a model, writes its table and prints its lines or its basins, or why it is refused.
+#![tactic(auto)]
+
 use cli::Failed;
+use std::process::ExitCode;
 use tables::basins::parted;
 use tables::reports::drained;
 
@@ -39,6 +42,6 @@ fn run(rt: &HostRuntime) -> Result<(), Failed> {
     }
 }
 
-fn main(rt: HostRuntime) -> Result<(), Failed> {
-    run(&rt)
+fn main(rt: HostRuntime) -> ExitCode {
+    cli::status_of(run(&rt))
 }

@@ -10,12 +10,12 @@ use Rattle.model.specs.WellFormed.{WellFormed}
 use Rattle.queue.specs.declared.Entry.{Entry}
 use Rattle.queue.specs.Heap.{word, pushed}
 use Rattle.flood.specs.declared.progress.Progress.{Progress}
-use Rattle.flood.specs.Run.{none, State, put, first_cell, first_level, spread, after, table}
+use Rattle.flood.specs.Run.{none, put, first_cell, first_level, spread, after, table}
 use Rattle.flood.specs.Fair.{model_ground}
 use Rattle.flood.specs.Held.{queue_part, Holds, Sized, ended}
 use Rattle.flood.specs.Of.{told_sides}
 use Rattle.flood.specs.Steps.{Empty, Popped}
-use Rattle.flood.proofs.Turns.{Room, between, first_is, first_cell_in, told_to, tell_none, cell_in, tell_has, tell_room, tell_put, turn_done}
+use Rattle.flood.proofs.Turns.{Room, between, first_is, first_cell_in, tell_none, cell_in, tell_has, tell_room, tell_put, turn_done}
 use Rattle.flood.proofs.Work.{holds_put, holds_taken, holds_by}
 
 -- as many turns are done as cells have places

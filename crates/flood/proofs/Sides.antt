@@ -6,7 +6,7 @@ use Rattle.model.specs.declared.grid.Grid.{Grid}
 use Rattle.model.specs.declared.land.Model.{Model}
 use Rattle.model.specs.declared.steps.Step.{Step}
 use Rattle.model.specs.declared.units.Cell.{Cell}
-use Rattle.model.specs.Bytes.{columns, rows}
+use Rattle.model.specs.Bytes.{columns}
 use Rattle.model.specs.Grid.{stepped, four_sides}
 use Rattle.model.specs.OfModel.{bytes_of}
 use Rattle.model.specs.Of.{Sized, number, neighbour, neighbour_in}

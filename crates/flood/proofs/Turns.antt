@@ -1,8 +1,7 @@
 -- What the program may do at each state of a model's run, and which state it holds then.
-use Rattle.std.proofs.Common.{◌≡◌, ℕ, suc, ◌+◌, ◌-◌, ◌*◌, ◌<◌, ◌≤◌, max, Bool, true, false, cond, eqb, ltb, List, [], ◌∷◌, ◌++◌, length, get_or, take, drop, Some, None, sym, refl, ap, ◌∙◌, subst, inl, inr, append_assoc, append-nil, add-one, arith, take-append-drop, le-ltb, lt-ltb, eq-eqb, ne_eqb}
+use Rattle.std.proofs.Common.{◌≡◌, ℕ, suc, ◌+◌, ◌<◌, ◌≤◌, max, true, false, eqb, List, [], ◌∷◌, ◌++◌, length, get_or, take, drop, Some, None, sym, refl, ap, ◌∙◌, subst, inl, inr, append_assoc, append-nil, add-one, arith, take-append-drop, le-ltb, eq-eqb, ne_eqb}
 use Rattle.std.proofs.lemmas.List.{take_more}
 use Rattle.std.proofs.lemmas.Bool.{cond-true, cond-false, cases_lt, cases_Bool}
-use Rattle.std.proofs.lemmas.Bool.Decides.{nat_tests}
 use Rattle.std.specs.Option.{option_to_list}
 use Rattle.model.specs.declared.steps.Step.{Step}
 use Rattle.model.specs.Bytes.{columns, rows, count}
@@ -14,7 +13,7 @@ use Rattle.queue.specs.Heap.{cell_of, level_of}
 use Rattle.flood.specs.declared.progress.Progress.{Progress}
 use Rattle.flood.specs.Run.{Ground, none, State, put, begun, taken, first_cell, first_level, wants, told, spread, after, table}
 use Rattle.flood.specs.Fair.{Fair, Sound, sides_of, model_ground}
-use Rattle.flood.specs.Held.{queue_part, Holds, Sized}
+use Rattle.flood.specs.Held.{queue_part, Holds}
 use Rattle.flood.proofs.Kept.{has, Long, Frame, Good, Mid}
 use Rattle.flood.proofs.Putting.{fits, room}
 use Rattle.flood.proofs.Beginning.{begun_all}

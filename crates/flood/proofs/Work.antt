@@ -1,13 +1,13 @@
 -- What the lent slices hold after each step of the program.
-use Rattle.std.proofs.Common.{◌≡◌, ℕ, ◌+◌, ◌-◌, ◌*◌, ◌<◌, ◌≤◌, min, List, ◌++◌, length, get_or, take, drop, set, replicate, sym, refl, ap, ◌∙◌, arith, length-append, length-drop, length-set, take-append-drop, length-take, drop-set-lt}
+use Rattle.std.proofs.Common.{◌≡◌, ℕ, ◌+◌, ◌-◌, ◌*◌, ◌<◌, ◌≤◌, List, ◌++◌, length, get_or, take, drop, set, replicate, refl, ap, ◌∙◌, arith, length-set, take-append-drop, length-take, drop-set-lt}
 use lib.Seq.{take-set-le, take-set-lt, drop-set-add}
 use Rattle.std.proofs.lemmas.List.{take_at, drop_at, length-replicate, take-replicate, drop-replicate}
 use Rattle.std.proofs.lemmas.Slice.{drop-append-drop}
 use Rattle.queue.specs.Heap.{word, cell_of, pushed, popped}
 use Rattle.queue.proofs.Laws.{pushed_length, popped_length}
 use Rattle.flood.specs.declared.progress.Progress.{Progress}
-use Rattle.flood.specs.Run.{none, State, blank, put, taken, first_cell}
-use Rattle.flood.specs.Held.{queue_part, order_part, places_part, held, Holds, Sized}
+use Rattle.flood.specs.Run.{none, State, blank, put, taken}
+use Rattle.flood.specs.Held.{queue_part, order_part, places_part, held, Holds}
 
 -- a front that was not changed
 pub front_same : (n : ℕ) (xs ys : List ℕ) → ys ≡ take n xs → ys ++ drop n xs ≡ xs

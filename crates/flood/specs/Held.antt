@@ -1,5 +1,5 @@
 -- What the lent slices hold of a state, for n cells: levels and flow by cell; the work has the queue in its first n words, then the order, then the places.
-use Rattle.std.specs.Prelude.{◌≡◌, ℕ, ◌+◌, ◌*◌, ◌<◌, ◌≤◌, List, ◌++◌, length, take, drop, set}
+use Rattle.std.specs.Prelude.{◌≡◌, ℕ, ◌*◌, List, length, take, drop}
 use Rattle.flood.specs.declared.progress.Progress.{Progress}
 use Rattle.flood.specs.Run.{State}
 

@@ -1,14 +1,13 @@
 -- What the first fault of a file says of the file.
-use Rattle.std.proofs.Common.{◌≡◌, ℕ, zero, suc, ◌+◌, ◌-◌, ◌*◌, ◌<◌, ◌≤◌, min, ◌⊎◌, List, length, Some, None, Option, sym, refl, ap, ◌∙◌, subst, inl, inr, add-suc, arith}
-use Rattle.std.proofs.lemmas.Bool.{cases_lt, cases_eq}
+use Rattle.std.proofs.Common.{◌≡◌, ℕ, zero, suc, ◌+◌, ◌<◌, ◌≤◌, ◌⊎◌, List, length, Some, None, Option, sym, refl, subst, inl, inr, add-suc, arith}
+use Rattle.std.proofs.lemmas.Bool.{cases_eq}
 use Rattle.std.proofs.lemmas.Bool.Decides.{nat_tests}
-use Rattle.model.specs.declared.refusal.Side.{Side}
 use Rattle.model.specs.declared.refusal.Side.TheVariants.{Columns, Rows}
 use Rattle.model.specs.declared.refusal.Refusal.{Refusal}
 use Rattle.model.specs.declared.refusal.Refusal.TheVariants.{Length, Size, Value}
 use Rattle.model.specs.Bytes.{columns, rows, count, start, cell_part, if_whole, height_in, rain_in, mark_in, height_at, rain_at, mark_at}
 use Rattle.model.specs.Refusals.{place}
-use Rattle.model.specs.Faults.{or_else, size_fault, head_fault, field_fault, cell_fault, cells_fault, end_fault, fault}
+use Rattle.model.specs.Faults.{or_else, head_fault, field_fault, cell_fault, cells_fault, end_fault, fault}
 use Rattle.model.specs.WellFormed.{Fits, WholeBefore, Wrong, RefusedAt}
 use Rattle.model.proofs.Parts.{part_length}
 use Rattle.model.proofs.Taken.{Faultless, faultless, each_cell}

@@ -1,11 +1,11 @@
 -- The cells that a table of steps leads to.
-use Rattle.std.proofs.Common.{◌≡◌, ℕ, ◌+◌, ◌-◌, ◌*◌, ◌<◌, ◌≤◌, Bool, true, false, ◌&&◌, ◌||◌, eqb, ltb, leb, ◌⊎◌, List, [], ◌∷◌, ◌++◌, Some, None, Option, sym, refl, ap, ◌∙◌, ap₂, inl, inr, arith, ltb-true, eq-eqb}
+use Rattle.std.proofs.Common.{◌≡◌, ℕ, ◌+◌, ◌-◌, ◌*◌, ◌<◌, ◌≤◌, Bool, true, false, ◌&&◌, ◌||◌, eqb, ltb, leb, ◌⊎◌, List, [], ◌∷◌, ◌++◌, Some, None, sym, refl, ap, ◌∙◌, ap₂, inl, inr, arith, ltb-true, eq-eqb}
 use mathlib.Core.Bool.{or_assoc}
 use Rattle.std.proofs.lemmas.Bool.{cases_lt, cases_Bool, and_parts, or_left}
 use Rattle.std.proofs.lemmas.Bool.Decides.{nat_tests}
 use Rattle.std.specs.Option.{option_to_list}
 use Rattle.model.specs.declared.steps.Step.{Step}
-use Rattle.model.specs.Grid.{row, column, cell_at, adjacent, moved, cell_at_both, stepped, four_sides, neighbours, among}
+use Rattle.model.specs.Grid.{row, column, cell_at, adjacent, moved, stepped, four_sides, neighbours, among}
 use Rattle.model.specs.Theorems.{NeighboursShareASide}
 use Rattle.model.proofs.Positions.{placed, numbered}
 

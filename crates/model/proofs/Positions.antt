@@ -1,11 +1,11 @@
 -- Rows and columns, neighbours, and a way off the land along a row.
-use Rattle.std.proofs.Common.{◌≡◌, ℕ, zero, suc, ◌+◌, ◌-◌, ◌*◌, ◌/◌, ◌%◌, ◌<◌, ◌≤◌, Bool, true, false, cond, ◌&&◌, ◌||◌, eqb, ltb, leb, ◌⊎◌, [], ◌∷◌, ◌++◌, sym, refl, ap, ◌∙◌, ap₂, inl, inr, arith}
+use Rattle.std.proofs.Common.{◌≡◌, ℕ, zero, suc, ◌+◌, ◌*◌, ◌<◌, ◌≤◌, Bool, true, ◌||◌, refl, arith}
 use Rattle.std.proofs.lemmas.Bool.Decides.{nat_tests}
 use Rattle.std.proofs.lemmas.Nat.{mul-add-lt, div-mul-add, mod-mul-add, div_below, mod_below, div-add-mod'}
-use Rattle.model.specs.Land.{Land, Out, here, on}
-use Rattle.model.specs.Grid.{row, column, cell_at, apart, adjacent, border, moved, stepped, four_sides, neighbours, among}
+use Rattle.model.specs.Land.{Out, here, on}
+use Rattle.model.specs.Grid.{row, column, cell_at, adjacent, border}
 use Rattle.model.specs.Terrain.{Terrain, land_of}
-use Rattle.model.specs.Theorems.{Placed, Numbered, NumbersAndPositions, NeighboursShareASide, AdjacentBothWays, EveryCellHasAWay}
+use Rattle.model.specs.Theorems.{Placed, Numbered, NumbersAndPositions, AdjacentBothWays, EveryCellHasAWay}
 
 some_column : (w h c : ℕ) → c < w * h → 0 < w
 some_column zero h c a = absurd (omega arith)

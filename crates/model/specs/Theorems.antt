@@ -1,6 +1,6 @@
 -- What holds of every grid and every model, in words of their own.
-use Rattle.std.specs.Prelude.{◌≡◌, ℕ, ◌*◌, ◌<◌, ◌≤◌, ◌&&◌, List, nat_lt}
-use Rattle.model.specs.Land.{Land, Out}
+use Rattle.std.specs.Prelude.{◌≡◌, ℕ, ◌*◌, ◌<◌, ◌≤◌, ◌&&◌, nat_lt}
+use Rattle.model.specs.Land.{Out}
 use Rattle.model.specs.Grid.{row, column, cell_at, adjacent, four_sides, neighbours, among}
 use Rattle.model.specs.Terrain.{Terrain, land_of}
 

@@ -1,4 +1,6 @@
 // Height models: their cells, their bytes, and the land that they describe.
+#![tactic(auto)]
+
 mod bytes;
 pub mod edits;
 pub mod grid;

@@ -50,7 +50,7 @@ fn sorted_heights(heap: Global, ground: &Ground) -> Result<Vec<u32>, AllocError>
     for spot in ground.spots.iter() {
         heights.push(spot.height)?;
     }
-    heights.sort();
+    heights.sort()?;
     Ok(heights)
 }
 

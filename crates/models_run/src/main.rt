@@ -1,4 +1,6 @@
 // models_run: drains and checks models from a fixed seed, whole and damaged, beside plain writings of the rules.
+#![tactic(auto)]
+
 use crate::running::{Tallies, run};
 use crate::tally::Tally;
 use anyhow::anyhow;

@@ -1,4 +1,6 @@
 // A binary heap of levels and cells in the front of a lent slice, one word an entry: the lowest comes out first.
+#![tactic(auto)]
+
 ghost use Rattle.std.specs.Prelude.{ℕ, ◌+◌, ◌-◌, ◌^◌, ◌<◌, ◌≤◌, length};
 ghost use Rattle.queue.specs.Heap.{Heap, Gains, Rest};
 ghost use Rattle.queue.specs.Limits.{most_entries, most_looks};

@@ -1,4 +1,6 @@
 // queue_run: sends many entries, with many ties, through the queue, and compares what comes out with a sorted list of them.
+#![tactic(auto)]
+
 use model::units::{Cell, Height};
 use queue::{Entry, pop, push};
 use std::alloc::{AllocError, Global};
@@ -38,7 +40,7 @@ fn sorted_keys(heap: Global, entries: &[Entry]) -> Result<Vec<u64>, AllocError> 
     for entry in entries.iter() {
         keys.push(sort_key(*entry))?;
     }
-    keys.sort();
+    keys.sort()?;
     Ok(keys)
 }
 

@@ -1,4 +1,6 @@
 // What planners get: the lines and the table of a drained model, of its basins and of a row of changes, and refusals as lines.
+#![tactic(auto)]
+
 mod answers;
 pub mod basins;
 pub mod changing;

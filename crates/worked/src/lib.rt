@@ -1,4 +1,6 @@
 // Small models worked out by hand, as theorems: each is owed by the contract of a function.
+#![tactic(auto)]
+
 ghost use Rattle.worked.specs.Promises.{WorkedModels, SpillPrints};
 
 // The worked models come out as they were worked out: levels, the lowest there are, flow and amounts.

@@ -9,13 +9,13 @@ pub returns : goal.returns
 returns c =
     let xs = c.args.heap.now in
     let len = c.args.len in
-    let took = c.take-first.ensures in
+    let took = c.take_first.ensures in
     let law = subst (AfterPop xs len) (sym took.after) (after_pop xs len took.some took.within) in
     record {
       after = took;
       lowest = λ h k b. by_level _ _ (get_or xs k 0) (omega arith) (omega (arith, took.first, law.least h k b));
       order = law.order;
-      content = subst (λ x. Gains c.take-first.new.heap (len - 1) x xs len) (sym took.first) law.content;
+      content = subst (λ x. Gains c.take_first.new.heap (len - 1) x xs len) (sym took.first) law.content;
       rest = law.rest;
       few = law.few;
       limit = λ most. law.few most_looks (omega arith);

@@ -8,7 +8,7 @@ pub returns : goal.returns
 returns c =
     let xs = c.args.heap.now in
     let len = c.args.len in
-    let is = c.sift-up.ensures ∙ ap (pushed xs len) c.word.ensures.coded in
+    let is = c.sift_up.ensures ∙ ap (pushed xs len) c.word.ensures.coded in
     let law = subst (AfterPush xs len _) (sym is) (after_push xs len _ (omega arith)) in
     record {
       after = (omega arith, is);

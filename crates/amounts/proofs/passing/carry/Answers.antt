@@ -14,10 +14,10 @@ loop-place-init c =
     let bs = c.args.model.now.bytes.now in
     let s = table_of bs in
     let n : length c.args.order.now ≡ count bs = ap length c.requires.order ∙ (table_long bs (formed bs c.args.model.now.taken)).order in
-    c.rain-all.ensures ∙ (pass_none s.flow s.order (rains (land bs)) (count bs) ∙ ap (λ p. accumulated s.flow s.order (rains (land bs)) (count bs - p) p) (sym n))
+    c.rain_all.ensures ∙ (pass_none s.flow s.order (rains (land bs)) (count bs) ∙ ap (λ p. accumulated s.flow s.order (rains (land bs)) (count bs - p) p) (sym n))
 
-pub pass-on-requires : goal.pass-on-requires
-pass-on-requires c =
+pub pass_on-requires : goal.pass_on-requires
+pass_on-requires c =
     let bs = c.args.model.now.bytes.now in
     let wf = formed bs c.args.model.now.taken in
     let n : length c.args.order.now ≡ count bs = ap length c.requires.order ∙ (table_long bs wf).order in
@@ -31,10 +31,10 @@ loop-place-preserved c =
     let bs = c.args.model.now.bytes.now in
     let s = table_of bs in
     let n : length c.args.order.now ≡ count bs = ap length c.requires.order ∙ (table_long bs (formed bs c.args.model.now.taken)).order in
-    let passed = c.pass-on.ensures ∙ (ap (λ f. passed_on f (get_or c.args.order.now (c.loop-place.place - 1) 0) c.loop-place.amounts) c.requires.flow ∙
+    let passed = c.pass_on.ensures ∙ (ap (λ f. passed_on f (get_or c.args.order.now (c.loop-place.place - 1) 0) c.loop-place.amounts) c.requires.flow ∙
     ap (λ o. passed_on s.flow (get_or o (c.loop-place.place - 1) 0) c.loop-place.amounts) c.requires.order)
     in
-    pass_more s.flow s.order (rains (land bs)) c.loop-place.amounts c.pass-on.new.amounts (count bs) c.loop-place.place c.loop-place-test.true (omega (arith, n)) c.loop-place.invariant passed
+    pass_more s.flow s.order (rains (land bs)) c.loop-place.amounts c.pass_on.new.amounts (count bs) c.loop-place.place c.loop-place-test.true (omega (arith, n)) c.loop-place.invariant passed
 
 pub returns : goal.returns
 returns c =

@@ -8,6 +8,6 @@ loop-c-preserved c =
     let flow = c.args.flow.now in
     let amounts = c.args.amounts.now in
     let low = leaves_low flow amounts c.loop-c.c in (
-      sum_more (leaves_at flow amounts) c.loop-c.c c.loop-c.leaves c.leaves-at-leaves.result.0 c.loop-c.invariant.0 c.leaves-at-leaves.ensures,
-      omega (arith, low, c.leaves-at-leaves.ensures, c.requires.low c.loop-c.c, c.loop-c.invariant.1),
+      sum_more (leaves_at flow amounts) c.loop-c.c c.loop-c.leaves c.leaves_at-leaves.result.0 c.loop-c.invariant.0 c.leaves_at-leaves.ensures,
+      omega (arith, low, c.leaves_at-leaves.ensures, c.requires.low c.loop-c.c, c.loop-c.invariant.1),
     )

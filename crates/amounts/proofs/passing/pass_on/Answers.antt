@@ -1,5 +1,4 @@
-use Rattle.std.proofs.Common.{arith, rules}
-use Rattle.std.proofs.lemmas.Bool.Decides.{nat_tests}
+use Rattle.std.proofs.Common.{rules}
 use Rattle.amounts.specs.Accumulation.{passed_on}
 use Rattle.amounts.proofs.passing.pass_on.Goals as goal
 
@@ -7,6 +6,6 @@ pub returns-in-To : goal.returns-in-To
 unfolding passed_on
 returns-in-To c = search rules
 
-pub returns-in-default : goal.returns-in-default
+pub returns-in_default : goal.returns-in_default
 unfolding passed_on
-returns-in-default c = search rules
+returns-in_default c = search rules

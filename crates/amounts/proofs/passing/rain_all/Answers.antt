@@ -9,7 +9,7 @@ use Rattle.amounts.proofs.passing.rain_all.Goals as goal
 pub loop-c-preserved : goal.loop-c-preserved
 loop-c-preserved c =
     let bs = c.args.model.now.bytes.now in
-    let r = rain_is bs (formed bs c.args.model.now.taken) c.loop-c.c c.rain-on.result.0 (omega arith) c.rain-on.ensures in
+    let r = rain_is bs (formed bs c.args.model.now.taken) c.loop-c.c c.rain_on.result.0 (omega arith) c.rain_on.ensures in
     subst (λ x. (k : ℕ) → k < c.loop-c.c + 1 → get_or (set c.loop-c.amounts c.loop-c.c x) k 0 ≡ (land bs).rain k) (sym r.0)
     (fill_by_more (land bs).rain c.loop-c.amounts c.loop-c.c 0 (omega arith) c.loop-c.invariant)
 

@@ -5,8 +5,8 @@ use Rattle.model.proofs.Taken.{formed}
 use Rattle.basins.proofs.Listing.{promised}
 use Rattle.basins.proofs.draining.drain_basins.Goals as goal
 
-pub returns-in-Ok-find-basins : goal.returns-in-Ok-find-basins
-returns-in-Ok-find-basins c =
+pub returns-in-Ok-find_basins : goal.returns-in-Ok-find_basins
+returns-in-Ok-find_basins c =
     let bs = c.args.model.now.bytes.now in
     let n = c.cells-n.ensures in
     let room = c.in-Ok.ensures.refused in
@@ -14,6 +14,6 @@ returns-in-Ok-find-basins c =
     let in_amounts : count bs ≤ length c.args.amounts.now = grind (arith, nat_tests, room) in
     record {
       refused = grind (arith, nat_tests, n, room, c.if-exits-n.false, c.if-cells-n.false);
-      after = promised bs (formed bs c.args.model.now.taken) _ _ _ _ _ _ _ _ c.in-Ok.drained c.in-Ok.ensures.after _ _ _ _ c.in-Ok-find-basins.ensures.after
-          (omega (arith, in_flow, c.drain-model.auto.flow)) (omega (arith, in_amounts, c.drain-model.auto.amounts)) (omega (arith, n, c.if-cells-n.false, c.find-basins.auto.cells));
+      after = promised bs (formed bs c.args.model.now.taken) _ _ _ _ _ _ _ _ c.in-Ok.drained c.in-Ok.ensures.after _ _ _ _ c.in-Ok-find_basins.ensures.after
+          (omega (arith, in_flow, c.drain_model.auto.flow)) (omega (arith, in_amounts, c.drain_model.auto.amounts)) (omega (arith, n, c.if-cells-n.false, c.find_basins.auto.cells));
     }

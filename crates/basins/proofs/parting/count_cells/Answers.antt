@@ -5,8 +5,8 @@ use Rattle.basins.proofs.parting.count_cells.Goals as goal
 pub loop-c-preserved : goal.loop-c-preserved
 loop-c-preserved c = count_more c.args.exits.now c.loop-c.cells c.count_one.new.cells c.loop-c.c c.loop-c.invariant c.count_one.ensures
 
-pub count-one-requires : goal.count-one-requires
-count-one-requires c =
+pub count_one-requires : goal.count_one-requires
+count_one-requires c =
     let low = count_low c.args.exits.now c.loop-c.cells c.loop-c.c (get_or c.args.exits.now c.loop-c.c 0) c.loop-c.invariant in
     omega (arith, low, c.loop-c-test.true, c.requires.few)
 

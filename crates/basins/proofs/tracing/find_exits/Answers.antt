@@ -6,8 +6,8 @@ use Rattle.flood.proofs.Turns.{small}
 use Rattle.basins.proofs.Steps.{traced, parts_told}
 use Rattle.basins.proofs.tracing.find_exits.Goals as goal
 
-pub tell-exits-requires : goal.tell-exits-requires
-tell-exits-requires c =
+pub tell_exits-requires : goal.tell_exits-requires
+tell_exits-requires c =
     let bs = c.args.model.now.bytes.now in
     omega (arith, c.cells-n.ensures, small bs (formed bs c.args.model.now.taken), length-take (c.cells-n.result - 0) c.args.exits.now)
 
@@ -18,5 +18,5 @@ returns c =
     record {
       refused = grind (arith, nat_tests, n, c.if-flow-n.false, c.if-work-n.false, c.if-exits-n.false);
       after = traced bs (formed bs c.args.model.now.taken) c.args.flow.now c.args.work.now c.args.exits.now (omega (arith, n, c.if-exits-n.false)) _
-          (parts_told c.args.flow.now c.args.work.now c.args.exits.now c.tell-exits.new.exits (count bs) _ _ _ _ (omega (arith, n)) (omega (arith, n)) n (omega (arith, n)) (omega (arith, n, c.if-work-n.false)) c.tell-exits.ensures);
+          (parts_told c.args.flow.now c.args.work.now c.args.exits.now c.tell_exits.new.exits (count bs) _ _ _ _ (omega (arith, n)) (omega (arith, n)) n (omega (arith, n)) (omega (arith, n, c.if-work-n.false)) c.tell_exits.ensures);
     }

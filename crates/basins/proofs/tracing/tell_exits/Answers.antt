@@ -8,4 +8,4 @@ unfolding exits_after
 loop-place-init c = refl
 
 pub loop-place-preserved : goal.loop-place-preserved
-loop-place-preserved c = pass_more c.args.flow.now c.args.order.now c.args.exits.now c.loop-place.exits c.tell-exit.new.exits c.loop-place.place c.loop-place.invariant c.tell-exit.ensures
+loop-place-preserved c = pass_more c.args.flow.now c.args.order.now c.args.exits.now c.loop-place.exits c.tell_exit.new.exits c.loop-place.place c.loop-place.invariant c.tell_exit.ensures

@@ -1,4 +1,4 @@
-use Rattle.std.proofs.Common.{ℕ, ◌+◌, ◌-◌, ◌<◌, length, get_or, set, sym, ap, ◌∙◌, subst, arith}
+use Rattle.std.proofs.Common.{ℕ, ◌+◌, ◌-◌, length, get_or, set, sym, ap, subst, arith}
 use Rattle.model.proofs.Taken.{formed}
 use Rattle.flood.proofs.Turns.{table_long}
 use Rattle.amounts.specs.Promise.{flow_in}
@@ -8,20 +8,20 @@ use Rattle.changes.proofs.moving.move_amounts.Goals as goal
 pub way-init : goal.way-init
 way-init c = record { cell = c.requires.cell; long = c.requires.long; low = λ d a. c.requires.low d; off = c.requires.off; counted = omega arith }
 
-pub overflow-add-amounts : goal.overflow-add-amounts
-overflow-add-amounts c =
+pub overflow_add-amounts : goal.overflow_add-amounts
+overflow_add-amounts c =
     let bs = c.args.model.now.bytes.now in
     let low = low_here bs (formed bs c.args.model.now.taken) _ _ _ _ _ _ c.requires.cell c.way.invariant in
     omega (arith, low, ap (λ i. get_or c.way.amounts i 0) c.index-c.ensures, c.requires.rain.1)
 
-pub overflow-sub-amounts : goal.overflow-sub-amounts
-overflow-sub-amounts c =
+pub overflow_sub-amounts : goal.overflow_sub-amounts
+overflow_sub-amounts c =
     let bs = c.args.model.now.bytes.now in
     let old = old_in_it bs (formed bs c.args.model.now.taken) _ _ _ _ _ _ c.requires.cell c.way.invariant in
     omega (arith, old, ap (λ i. get_or c.way.amounts i 0) c.index-c.ensures)
 
-pub overflow-add-touched : goal.overflow-add-touched
-overflow-add-touched c =
+pub overflow_add-touched : goal.overflow_add-touched
+overflow_add-touched c =
     let bs = c.args.model.now.bytes.now in
     omega (arith, few_touched bs (formed bs c.args.model.now.taken) _ _ _ _ _ _ c.requires.cell c.way.invariant)
 

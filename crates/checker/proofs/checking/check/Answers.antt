@@ -9,7 +9,7 @@ pub returns : goal.returns
 returns c =
     let bs = c.args.bytes.now in
     let t = c.args.table.now in
-    let first : result_err c.check-table.result ≡ check_fault bs t =
-    c.check-table.ensures ∙ (ap (λ x. table_fault x t) c.new.ensures.bytes ∙ ap (λ o. or_else o (table_fault bs t)) c.in-ok-grid.ensures.fault)
+    let first : result_err c.check_table.result ≡ check_fault bs t =
+    c.check_table.ensures ∙ (ap (λ x. table_fault x t) c.new.ensures.bytes ∙ ap (λ o. or_else o (table_fault bs t)) c.in_ok-grid.ensures.fault)
     in
-    record { refused = first; meaning = meaning bs t c.check-table.result first }
+    record { refused = first; meaning = meaning bs t c.check_table.result first }

@@ -15,11 +15,11 @@ use Rattle.checker.proofs.Gathering.{amount_by}
 use Rattle.checker.proofs.checking.check_amounts.Goals as goal
 use Rattle.checker.proofs.checking.check_amounts.Goals.{After-sides}
 
-pub sides-preserved-in-default : goal.sides-preserved-in-default
-sides-preserved-in-default c =
+pub sides-preserved-in_default : goal.sides-preserved-in_default
+sides-preserved-in_default c =
     let bs = c.args.model.now.bytes.now in
     let t = c.args.table.now in
-    let same = side_none bs c.cells.c c.sides.side-index _ (omega arith) (omega arith) c.in-default.ensures in
+    let same = side_none bs c.cells.c c.sides.side-index _ (omega arith) (omega arith) c.in_default.ensures in
     (c.sides.invariant.0 ∙ ap (λ xs. rain_at bs c.cells.c + sum_by (sends (flow_from t) (amount_at t) c.cells.c) xs) (sym same), omega (arith, c.sides.invariant.1))
 
 pub sent-requires : goal.sent-requires
@@ -36,7 +36,7 @@ sides-preserved c =
     let more = side_some bs c.cells.c c.sides.side-index _ (omega arith) (omega arith) d c.in-Some.ensures in
     let pushed = ap (sum_by h) more ∙ sum_by_push h (sides bs c.sides.side-index c.cells.c) d in
     let came = c.from-sum-in-sides.ensures ∙ c.sent.ensures in
-    (omega (arith, c.sides.invariant.0, pushed, came), omega (arith, c.sides.invariant.1, c.sent.type-inv))
+    (omega (arith, c.sides.invariant.0, pushed, came), omega (arith, c.sides.invariant.1, c.sent.type_inv))
 
 -- the sum over all four sides is compared with the amount
 compared : (c : After-sides) →
@@ -52,13 +52,13 @@ compared c =
 pub cells-preserved : goal.cells-preserved
 cells-preserved c =
     let t = c.args.table.now in
-    let same : amount_at t c.cells.c ≡ c.sides.sum = omega (arith, c.if-sum-from.true, c.from.ensures, c.row-of.ensures.amount) in
+    let same : amount_at t c.cells.c ≡ c.sides.sum = omega (arith, c.if-sum-from.true, c.from.ensures, c.row_of.ensures.amount) in
     c.cells.invariant ∙ bad_passed _ _ _ (omega arith) (compared (goal.at.cells-preserved c).After-sides ∙ eq-eqb _ _ same)
 
 pub returns-in-cells : goal.returns-in-cells
 returns-in-cells c =
     let t = c.args.table.now in
-    let other : amount_at t c.cells.c ≡ c.sides.sum → ⊥ = λ e. c.if-sum-from.false (omega (arith, e, c.from.ensures, c.row-of.ensures.amount)) in
+    let other : amount_at t c.cells.c ≡ c.sides.sum → ⊥ = λ e. c.if-sum-from.false (omega (arith, e, c.from.ensures, c.row_of.ensures.amount)) in
     ap (option_map (λ x. Amount (record { 0 = x }))) (sym (c.cells.invariant ∙ bad_found _ _ _ (omega arith) (compared (goal.at.returns-in-cells c).After-sides ∙ ne_eqb _ _ other)))
 
 pub returns : goal.returns

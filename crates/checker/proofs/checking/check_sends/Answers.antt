@@ -15,30 +15,30 @@ use Rattle.checker.proofs.Sending.{code_off, code_to, off_right, off_wrong, on, 
 use Rattle.checker.proofs.checking.check_sends.Goals as goal
 use Rattle.checker.proofs.checking.check_sends.Goals.{Else-ne}
 
-pub returns-then-not-is-off-right : goal.returns-then-not-is-off-right
-returns-then-not-is-off-right c =
-    let bad = off_wrong c.args.model.now.bytes.now c.args.table.now c.cells.c (sym c.if-not-is-off-right.ensures) in
+pub returns-then-not-is_off_right : goal.returns-then-not-is_off_right
+returns-then-not-is_off_right c =
+    let bad = off_wrong c.args.model.now.bytes.now c.args.table.now c.cells.c (sym c.if-not-is_off_right.ensures) in
     ap (option_map (λ x. Sends (record { 0 = x }))) (sym (c.cells.invariant ∙ bad_found _ _ _ (omega arith) bad))
 
-pub cells-preserved-in-default : goal.cells-preserved-in-default
-cells-preserved-in-default c =
-    let off = code_off _ (sym c.in-default.is ∙ c.row-of-row.ensures.sends) in
-    c.cells.invariant ∙ bad_passed _ _ _ (omega arith) (off_right c.args.model.now.bytes.now c.args.table.now c.cells.c (sym c.if-not-is-off-right.ensures) off)
+pub cells-preserved-in_default : goal.cells-preserved-in_default
+cells-preserved-in_default c =
+    let off = code_off _ (sym c.in_default.is ∙ c.row_of-row.ensures.sends) in
+    c.cells.invariant ∙ bad_passed _ _ _ (omega arith) (off_right c.args.model.now.bytes.now c.args.table.now c.cells.c (sym c.if-not-is_off_right.ensures) off)
 
-pub sides-preserved-in-default-neighbour : goal.sides-preserved-in-default-neighbour
-sides-preserved-in-default-neighbour c =
+pub sides-preserved-in_default-neighbour : goal.sides-preserved-in_default-neighbour
+sides-preserved-in_default-neighbour c =
     let bs = c.args.model.now.bytes.now in
-    ap (among c.in-To.to.0) (side_none bs c.cells.c c.sides.side-index _ (omega arith) (omega arith) c.in-default-neighbour.ensures) ∙ c.sides.invariant
+    ap (among c.in-To.to.0) (side_none bs c.cells.c c.sides.side-index _ (omega arith) (omega arith) c.in_default-neighbour.ensures) ∙ c.sides.invariant
 
 pub sides-preserved : goal.sides-preserved
 sides-preserved c =
     let bs = c.args.model.now.bytes.now in
-    let other = found_other c.in-Some.next.0 c.in-To.to.0 c.if-ne.ensures.0 c.if-ne.ensures.1.1 c.if-ne.ensures.2 in
+    let other = found_other c.in-Some.next.0 c.in-To.to.0 c.if-ne.ensures in
     let more = side_some bs c.cells.c c.sides.side-index _ (omega arith) (omega arith) c.in-Some.next.0 c.in-Some.ensures in
     still_none bs c.args.table.now c.cells.c c.sides.side-index c.in-To.to.0 c.in-Some.next.0 more c.sides.invariant other
 
-pub row-of-requires : goal.row-of-requires
-row-of-requires c =
+pub row_of-requires : goal.row_of-requires
+row_of-requires c =
     let bs = c.args.model.now.bytes.now in
     omega (arith, side_in bs c.cells.c c.sides.side-index _ (omega arith) (omega arith) c.in-Some.next.0 c.in-Some.ensures)
 
@@ -50,19 +50,19 @@ to_next c =
     let bs = c.args.model.now.bytes.now in
     let t = c.args.table.now in
     let k = c.cells.c in
-    let to = code_to _ _ (sym c.in-To.is ∙ c.row-of-row.ensures.sends) in
-    let next : sends_at t k ≡ c.in-Some.next.0 = sym (found_same c.in-Some.next.0 c.in-To.to.0 c.if-ne.ensures.0 c.if-ne.ensures.1.0 c.if-ne.ensures.2 ∙ to.1) in
+    let to = code_to _ _ (sym c.in-To.is ∙ c.row_of-row.ensures.sends) in
+    let next : sends_at t k ≡ c.in-Some.next.0 = sym (found_same c.in-Some.next.0 c.in-To.to.0 c.if-ne.ensures ∙ to.1) in
     let beside = side_among bs k c.sides.side-index _ (omega arith) (omega arith) c.in-Some.next.0 c.in-Some.ensures in
-    on bs t k (sym c.if-not-is-off-right.ensures) to.0 ∙
+    on bs t k (sym c.if-not-is_off_right.ensures) to.0 ∙
     (ap (λ x. among x (sides bs 4 k) && ltb (place_at t x) (place_at t k)) next ∙ ap (λ b. b && ltb (place_at t c.in-Some.next.0) (place_at t k)) beside)
 
 pub cells-preserved : goal.cells-preserved
 cells-preserved c =
-    c.cells.invariant ∙ bad_passed _ _ _ (omega arith) (to_next (goal.at.cells-preserved c).Else-ne ∙ lt-ltb _ _ (omega (arith, c.row-of.ensures.place, c.row-of-row.ensures.place)))
+    c.cells.invariant ∙ bad_passed _ _ _ (omega arith) (to_next (goal.at.cells-preserved c).Else-ne ∙ lt-ltb _ _ (omega (arith, c.row_of.ensures.place, c.row_of-row.ensures.place)))
 
 pub returns-in-sides : goal.returns-in-sides
 returns-in-sides c =
-    let bad = to_next (goal.at.returns-in-sides c).Else-ne ∙ le-ltb _ _ (omega (arith, c.row-of.ensures.place, c.row-of-row.ensures.place)) in
+    let bad = to_next (goal.at.returns-in-sides c).Else-ne ∙ le-ltb _ _ (omega (arith, c.row_of.ensures.place, c.row_of-row.ensures.place)) in
     ap (option_map (λ x. Sends (record { 0 = x }))) (sym (c.cells.invariant ∙ bad_found _ _ _ (omega arith) bad))
 
 pub returns-in-cells : goal.returns-in-cells
@@ -71,9 +71,9 @@ returns-in-cells c =
     let t = c.args.table.now in
     let here : c.cells.c < count bs = omega arith in
     let all : c.sides.side-index ≡ 4 = omega arith in
-    let to = code_to _ _ (sym c.in-To.is ∙ c.row-of-row.ensures.sends) in
+    let to = code_to _ _ (sym c.in-To.is ∙ c.row_of-row.ensures.sends) in
     let none = sym (ap₂ (λ x i. among x (sides bs i c.cells.c)) to.1 all) ∙ c.sides.invariant in
-    let bad = on bs t c.cells.c (sym c.if-not-is-off-right.ensures) to.0 ∙ and_left _ _ none in
+    let bad = on bs t c.cells.c (sym c.if-not-is_off_right.ensures) to.0 ∙ and_left _ _ none in
     ap (option_map (λ x. Sends (record { 0 = x }))) (sym (c.cells.invariant ∙ bad_found _ _ _ here bad))
 
 pub returns : goal.returns

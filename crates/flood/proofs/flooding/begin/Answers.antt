@@ -1,5 +1,5 @@
 -- Each outlet is put into the queue with its height.
-use Rattle.std.proofs.Common.{◌≡◌, ◌<◌, true, false, ltb, sym, ap, ◌∙◌, subst, arith, ltb-true, lt-ltb}
+use Rattle.std.proofs.Common.{◌≡◌, true, false, ltb, sym, subst, arith, ltb-true, lt-ltb}
 use Rattle.std.proofs.lemmas.Bool.{and_parts}
 use Rattle.std.proofs.lemmas.Bool.Decides.{nat_tests}
 use Rattle.model.specs.Bytes.{count}
@@ -34,10 +34,10 @@ outlets-preserved c =
     let k = c.outlets.c in
     let outlet = (and_parts _ _ (sym c.if-not-leaves.ensures)).1 in
     let e = c.put.ensures in
-    let done : Holds (put c.height-of-level.result.0 none k (begun (ground c.args.model.now) k)) c.put.new.levels c.put.new.flow c.put.new.work c.put.new.progress =
-    holds_put (begun (ground c.args.model.now) k) _ _ _ _ _ _ _ _ c.height-of-level.result.0 none k (omega arith) inv.1 e.levels e.flow e.work e.queued e.placed e.looks
+    let done : Holds (put c.height_of-level.result.0 none k (begun (ground c.args.model.now) k)) c.put.new.levels c.put.new.flow c.put.new.work c.put.new.progress =
+    holds_put (begun (ground c.args.model.now) k) _ _ _ _ _ _ _ _ c.height_of-level.result.0 none k (omega arith) inv.1 e.levels e.flow e.work e.queued e.placed e.looks
     in
-    let at_height = subst (λ v. Holds (put v none k (begun (ground c.args.model.now) k)) c.put.new.levels c.put.new.flow c.put.new.work c.put.new.progress) c.height-of-level.ensures done in
+    let at_height = subst (λ v. Holds (put v none k (begun (ground c.args.model.now) k)) c.put.new.levels c.put.new.flow c.put.new.work c.put.new.progress) c.height_of-level.ensures done in
     (record { of_levels = omega arith; of_flow = omega arith; of_work = omega arith }, begin_put bs (formed bs c.args.model.now.taken) k _ _ _ _ outlet at_height)
 
 pub returns : goal.returns

@@ -3,7 +3,7 @@ use Rattle.std.proofs.Common.{◌≡◌, ℕ, max, List, get_or, replicate, sym,
 use Rattle.model.proofs.Taken.{formed}
 use Rattle.flood.specs.Run.{none, begun}
 use Rattle.flood.proofs.Turns.{between}
-use Rattle.flood.proofs.Loops.{Turned, Telling, turn_begins, popped_in, side_none, side_in, side_has, side_room, side_put, turn_ends, none_turned, all_turned}
+use Rattle.flood.proofs.Loops.{Telling, turn_begins, popped_in, side_none, side_in, side_has, side_room, side_put, turn_ends, none_turned, all_turned}
 use Rattle.flood.proofs.Sides.{sized_as, at_neighbours}
 use Rattle.flood.proofs.Work.{holds_blank}
 use Rattle.flood.proofs.flooding.flood_all.Goals as goal
@@ -57,12 +57,12 @@ cells-preserved c =
     let all : c.sides.side-index ≡ 4 = omega arith in
     turn_ends bs (formed bs c.args.model.now.taken) _ _ _ _ _ _ (subst (Telling bs c.sides.levels c.sides.flow c.sides.work c.sides.progress c.in-Some.taken.cell.0 c.in-Some.taken.level.0) all c.sides.invariant.0)
 
-pub sides-preserved-in-default-side : goal.sides-preserved-in-default-side
-sides-preserved-in-default-side c =
+pub sides-preserved-in_default-side : goal.sides-preserved-in_default-side
+sides-preserved-in_default-side c =
     let bs = c.args.model.now.bytes.now in
     let wf = formed bs c.args.model.now.taken in
     let t = c.sides.invariant.0 in
-    let led = at_neighbours c.grid.result bs c.in-Some.taken.cell c.neighbours-side-items.result _ _ (sized_as c.grid.result c.args.model.now c.grid.ensures) (omega arith) c.neighbours-side-items.ensures c.in-default-side.is in
+    let led = at_neighbours c.grid.result bs c.in-Some.taken.cell c.neighbours-side-items.result _ _ (sized_as c.grid.result c.args.model.now c.grid.ensures) (omega arith) c.neighbours-side-items.ensures c.in_default-side.is in
     (side_none bs wf _ _ _ _ _ _ _ t _ (omega arith) led, c.sides.invariant.1)
 
 pub bounds-levels-index : goal.bounds-levels-index
@@ -82,8 +82,8 @@ sides-preserved-then-levels-index c =
     let has_level : get_or c.sides.levels c.in-Some-side.next.0 0 ≡ none → ⊥ = λ e. c.if-levels-index.true (ap (λ i. get_or c.sides.levels i 0) c.index.ensures ∙ e) in
     (side_has bs wf _ _ _ _ _ _ _ t _ _ (omega arith) led has_level, c.sides.invariant.1)
 
-pub height-of-requires : goal.height-of-requires
-height-of-requires c =
+pub height_of-requires : goal.height_of-requires
+height_of-requires c =
     let bs = c.args.model.now.bytes.now in
     let wf = formed bs c.args.model.now.taken in
     let t = c.sides.invariant.0 in
@@ -116,7 +116,7 @@ sides-preserved c =
     let new : get_or c.sides.levels c.in-Some-side.next.0 0 ≡ none = ap (λ i. get_or c.sides.levels i 0) (sym c.index.ensures) ∙ c.if-levels-index.false in
     let e = c.put.ensures in
     let sz = t.sized in (
-      side_put bs wf _ _ _ _ _ _ _ t _ _ (omega arith) led _ _ _ _ c.higher-level.result.0 new (c.higher-level.ensures ∙ ap (λ x. max x c.in-Some.taken.level.0) c.height-of.ensures)
+      side_put bs wf _ _ _ _ _ _ _ t _ _ (omega arith) led _ _ _ _ c.higher-level.result.0 new (c.higher-level.ensures ∙ ap (λ x. max x c.in-Some.taken.level.0) c.height_of.ensures)
           (record { of_levels = omega (arith, sz.of_levels); of_flow = omega (arith, sz.of_flow); of_work = omega (arith, sz.of_work) }) e.levels e.flow e.work e.queued e.placed e.looks,
       e.placed ∙ c.sides.invariant.1,
     )
@@ -124,5 +124,5 @@ sides-preserved c =
 pub returns : goal.returns
 returns c =
     let bs = c.args.model.now.bytes.now in
-    let a = all_turned bs (formed bs c.args.model.now.taken) _ _ _ _ _ _ c.cells.invariant c.in-default.ensures in
+    let a = all_turned bs (formed bs c.args.model.now.taken) _ _ _ _ _ _ c.cells.invariant c.in_default.ensures in
     record { sized = a.0; table = a.1 }

@@ -7,5 +7,5 @@ use Rattle.model.proofs.bytes.rain_in.Goals as goal
 
 pub returns : goal.returns
 returns c =
-    let rain : c.read-four.result ≡ four (drop 4 c.args.part.now) = c.read-four.ensures ∙ ap four (take_rest c.args.part.now 4) in
+    let rain : c.read_four.result ≡ four (drop 4 c.args.part.now) = c.read_four.ensures ∙ ap four (take_rest c.args.part.now 4) in
     grind (arith, nat_tests)

@@ -1,4 +1,4 @@
-use Rattle.std.proofs.Common.{◌≡◌, ◌-◌, ◌*◌, ◌≤◌}
+use Rattle.std.proofs.Common.{◌≡◌, ◌-◌}
 use Rattle.model.specs.Faults.{cells_fault}
 use Rattle.model.specs.Of.{cells}
 use Rattle.model.proofs.reading.read.Given as goal

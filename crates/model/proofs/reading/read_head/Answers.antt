@@ -8,8 +8,8 @@ use Rattle.model.proofs.reading.read_head.Goals as goal
 
 pub returns : goal.returns
 returns c =
-    let rows : c.read-two-2.result ≡ two (drop 2 c.args.bytes.now) = c.read-two-2.ensures ∙ ap two (take_rest c.args.bytes.now 2) in
+    let rows : c.read_two-2.result ≡ two (drop 2 c.args.bytes.now) = c.read_two-2.ensures ∙ ap two (take_rest c.args.bytes.now 2) in
     record {
       fault = grind (arith, nat_tests);
-      grid = IfOk-weaker c.new.result _ _ (λ g e. record { w = e.0 ∙ c.read-two.ensures; h = e.1 ∙ rows }) c.new.ensures.grid;
+      grid = IfOk-weaker c.new.result _ _ (λ g e. record { w = e.0 ∙ c.read_two.ensures; h = e.1 ∙ rows }) c.new.ensures.grid;
     }

@@ -6,8 +6,8 @@ use Rattle.queue.proofs.up.sift_up.Goals.{else-loop-free-test, then-loop-free-te
 pub loop-free-init : goal.loop-free-init
 loop-free-init c = (c.requires, (c.args.start, record { enough = omega arith; same = refl }))
 
-pub overflow-add-looks : goal.overflow-add-looks
-overflow-add-looks c = let r = c.loop-free.invariant.1 in omega (arith, rise_few r.0 r.1 c.requires (omega arith) c.loop-free.invariant.0)
+pub overflow_add-looks : goal.overflow_add-looks
+overflow_add-looks c = let r = c.loop-free.invariant.1 in omega (arith, rise_few r.0 r.1 c.requires (omega arith) c.loop-free.invariant.0)
 
 pub loop-free-preserved : goal.loop-free-preserved
 loop-free-preserved c =

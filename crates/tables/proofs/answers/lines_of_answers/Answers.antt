@@ -4,7 +4,7 @@ use Rattle.tables.proofs.Texts.{said_more, said_all}
 use Rattle.tables.proofs.answers.lines_of_answers.Goals as goal
 
 pub loop-k-preserved : goal.loop-k-preserved
-loop-k-preserved c = said_more answer_line c.args.answers.now _ _ c.loop-k.k _ (omega arith) c.loop-k.invariant c.in-ok-push-answer.ensures
+loop-k-preserved c = said_more answer_line c.args.answers.now _ _ c.loop-k.k _ (omega arith) c.loop-k.invariant c.in_ok-push_answer.ensures
 
 pub returns : goal.returns
 returns c = said_all answer_line c.args.answers.now _ c.loop-k.k (omega arith) c.loop-k.invariant

@@ -4,4 +4,4 @@ use Rattle.tables.proofs.answers.push_hint_if.Goals as goal
 
 pub returns-in-None : goal.returns-in-None
 returns-in-None c =
-    subst (λ o. IfOk c.push-hint.result (λ _. string_bytes c.push-hint.new.out ≡ string_bytes c.args.out.now ++ hint_if c.args.line o)) (sym c.in-None.is) c.push-hint.ensures
+    subst (λ o. IfOk c.push_hint.result (λ _. string_bytes c.push_hint.new.out ≡ string_bytes c.args.out.now ++ hint_if c.args.line o)) (sym c.in-None.is) c.push_hint.ensures

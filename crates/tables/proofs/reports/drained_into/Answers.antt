@@ -7,17 +7,17 @@ use Rattle.tables.specs.Lines.{drain_lines}
 use Rattle.tables.proofs.Told.{told, none_refused, places_end, rows_told, places_low}
 use Rattle.tables.proofs.reports.drained_into.Goals as goal
 
-pub returns-in-err-answer : goal.returns-in-err-answer
-returns-in-err-answer c =
+pub returns-in_err-answer : goal.returns-in_err-answer
+returns-in_err-answer c =
     let p = c.requires in
-    absurd (none_refused _ _ _ _ _ _ p.taken p.levels p.flow p.amounts p.work c.in-err-answer.ensures.refused)
+    absurd (none_refused _ _ _ _ _ _ p.taken p.levels p.flow p.amounts p.work c.in_err-answer.ensures.refused)
 
-pub table-rows-requires : goal.table-rows-requires
-table-rows-requires c =
+pub table_rows-requires : goal.table_rows-requires
+table_rows-requires c =
     let p = c.requires in
     let bs = c.args.bytes.now in
     let wf = well_formed bs p.taken in
-    let w = c.in-ok-answer.ensures.after.written.work in
+    let w = c.in_ok-answer.ensures.after.written.work in
     let n = length c.args.levels.now in
     let places = places_end bs wf c.args.work.now c.drain.new.work (3 * n - 2 * n) (2 * n) (omega (arith, p.levels)) (omega (arith, p.levels)) p.work w in
     record {
@@ -30,13 +30,13 @@ returns c =
     let p = c.requires in
     let bs = c.args.bytes.now in
     let n = length c.args.levels.now in
-    let d = c.in-ok-answer.answer in
-    let promise = c.in-ok-answer.ensures.after in
+    let d = c.in_ok-answer.answer in
+    let promise = c.in_ok-answer.ensures.after in
     let wf = well_formed bs p.taken in
-    let rows = rows_told bs _ _ _ _ _ _ _ c.drain.new.work _ (3 * n - 2 * n) (2 * n) _ wf promise p.levels p.flow p.amounts p.work (omega (arith, p.levels)) (omega (arith, p.levels)) c.in-ok-table.ensures in
+    let rows = rows_told bs _ _ _ _ _ _ _ c.drain.new.work _ (3 * n - 2 * n) (2 * n) _ wf promise p.levels p.flow p.amounts p.work (omega (arith, p.levels)) (omega (arith, p.levels)) c.in_ok-table.ensures in
     record {
       lines = told bs _ _ _ _ _ _ _ _ _ _ promise p.levels p.flow p.amounts
-          (c.in-ok-text.ensures ∙ ap (λ b. drain_lines b c.drain.new.levels c.drain.new.flow c.drain.new.amounts d.rain.0 d.leaves.0) c.new.ensures.bytes);
+          (c.in_ok-text.ensures ∙ ap (λ b. drain_lines b c.drain.new.levels c.drain.new.flow c.drain.new.amounts d.rain.0 d.leaves.0) c.new.ensures.bytes);
       rows = rows;
       accepted = ap (check_fault bs) rows ∙ drained_accepted bs wf;
     }

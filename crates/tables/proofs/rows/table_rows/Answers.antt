@@ -11,4 +11,4 @@ loop-c-preserved c =
     let places = c.args.places.now in
     let amounts = c.args.amounts.now in
     joined_more [] _ _ (row_from levels c.args.flow.now places amounts) k c.loop-c.invariant
-    (c.in-ok-push-row.ensures ∙ ap (λ s. vec_items c.loop-c.table ++ row_bytes (get_or levels k 0) s (get_or places k 0) (get_or amounts k 0)) c.of-code.ensures.back)
+    (c.in_ok-push_row.ensures ∙ ap (λ s. vec_items c.loop-c.table ++ row_bytes (get_or levels k 0) s (get_or places k 0) (get_or amounts k 0)) c.of_code.ensures.back)

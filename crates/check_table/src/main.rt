@@ -1,7 +1,10 @@
 // check: accepts a table for a model if it is right, whoever made it, or says where it is not.
+#![tactic(auto)]
+
 use changes::failure::Failure;
 use checker::checking;
 use cli::Failed;
+use std::process::ExitCode;
 
 const USAGE: &str =
     "usage: check MODEL TABLE\n\nChecks the table in the file TABLE for the model in the file MODEL. Prints accepted, or the number and\nthe place of the first fault: 1 to 3 in the model, 6 the table's length, 8 where a cell sends, 7 a level,\n9 an amount.\n";
@@ -24,6 +27,6 @@ fn run(rt: &HostRuntime) -> Result<(), Failed> {
     }
 }
 
-fn main(rt: HostRuntime) -> Result<(), Failed> {
-    run(&rt)
+fn main(rt: HostRuntime) -> ExitCode {
+    cli::status_of(run(&rt))
 }
