@@ -1,7 +1,7 @@
 -- A row of changes that is written out reads back.
 use Rattle.std.proofs.Common.{◌≡◌, ℕ, zero, suc, ◌+◌, ◌-◌, ◌<◌, ◌≤◌, Bool, true, false, not, ◌&&◌, eqb, List, [], ◌∷◌, ◌++◌, length, get_or, Some, codes, decimal, refl, ap, arith}
 use Rattle.std.specs.Char.{is_ascii_digit}
-use Rattle.std.specs.List.{AllByRecursion as All}
+use Rattle.std.specs.List.{AllByRecursion}
 use Rattle.std.specs.Str.{all_ascii_digits}
 use Rattle.std.proofs.lemmas.Bool.{and_parts, eq-eqb, not-true}
 use Rattle.std.proofs.lemmas.Bool.Decides.{nat_tests}
@@ -78,7 +78,7 @@ change_reads (Rain c v) n small = line_reads (codes "rain") c.0 v.0 small.0 smal
 change_reads (Drain c true) n small = line_reads (codes "drain") c.0 1 small (omega arith) n refl refl refl refl
 change_reads (Drain c false) n small = line_reads (codes "drain") c.0 0 small (omega arith) n refl refl refl refl
 
-rows : (n : ℕ) (row : List Change) → All Small row → asked_from n (lines (text_of row)) ≡ asked_at n row
+rows : (n : ℕ) (row : List Change) → AllByRecursion Small row → asked_from n (lines (text_of row)) ≡ asked_at n row
 rows n [] small = refl
 rows n (x ∷ xs) small =
     let line = change_reads x n small.0 in

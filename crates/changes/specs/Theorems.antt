@@ -1,6 +1,6 @@
 -- What is proved of numbers and rows in a text, in words that are not the program's.
 use Rattle.std.specs.Prelude.{◌≡◌, ℕ, ◌+◌, ◌<◌, ◌≤◌, min, cond, List, [], ◌∷◌, ◌++◌, length, Some, codes, decimal, slice_index}
-use Rattle.std.specs.List.{AllByRecursion as All}
+use Rattle.std.specs.List.{AllByRecursion}
 use Rattle.changes.specs.declared.asked.Change.{Change}
 use Rattle.changes.specs.declared.asked.Change.TheVariants.{Height, Rain, Drain}
 use Rattle.changes.specs.declared.asked.Asked.{Asked}
@@ -48,4 +48,4 @@ asked_at n (x ∷ xs) = record { line = n; change = Some x } ∷ asked_at (n + 1
 
 -- A ROW THAT IS WRITTEN OUT reads back, change by change
 abbrev pub WrittenRowsReadBack : Type 0
-WrittenRowsReadBack = (row : List Change) → All Small row → row_of (text_of row) ≡ asked_at 1 row
+WrittenRowsReadBack = (row : List Change) → AllByRecursion Small row → row_of (text_of row) ≡ asked_at 1 row

@@ -3,7 +3,7 @@
 
 use cli::Failed;
 use std::process::ExitCode;
-use tables::basins::parted;
+use tables::parting::parted;
 use tables::reports::drained;
 
 const USAGE: &str =

@@ -2,9 +2,10 @@
 #![tactic(auto)]
 
 mod answers;
-pub mod basins;
 pub mod changing;
+pub mod failure;
 pub mod lines;
+pub mod parting;
 pub mod report;
 pub mod reports;
 mod rows;

@@ -1,7 +1,7 @@
 -- The rule, run on the worked models by the checker, and what follows of their levels.
 use Rattle.std.proofs.Common.{◌*◌, ◌<◌, get_or, sym, refl, subst, ap₂}
 use Rattle.std.specs.Fmt.{digits}
-use Rattle.std.specs.List.{AllByRecursion as All}
+use Rattle.std.specs.List.{AllByRecursion}
 use Rattle.std.proofs.ByRecursion.{All-weaker}
 use Rattle.model.specs.Bytes.{two, four}
 use Rattle.model.specs.Faults.{cells_fault}
@@ -26,7 +26,7 @@ worked_out m k =
           subst (λ ls. Level (land (file m)) c (get_or ls c 0)) k.levels (right.drained.level c (subst (λ n. c < n) (sym (ap₂ ◌*◌ k.wide k.tall)) a));
     }
 
-all_computed : All Computed worked_models
+all_computed : AllByRecursion Computed worked_models
 unfolding file two four cells_fault rise sink blank put begun taken told spread after passed_on accumulated
 all_computed = (
   record { taken = refl; wide = refl; tall = refl; heights = refl; rains = refl; marks = refl; levels = refl; flow = refl; amounts = refl },

@@ -1,6 +1,6 @@
 -- What is promised of the worked models: each is a statement whose proof a contract owes.
 use Rattle.std.specs.Prelude.{◌≡◌, ℕ, ◌*◌, ◌<◌, List, map, replicate, None, codes, slice_index}
-use Rattle.std.specs.List.{range_with_len, AllByRecursion as All}
+use Rattle.std.specs.List.{range_with_len, AllByRecursion}
 use Rattle.model.specs.Bytes.{columns, rows, height_at, rain_at, mark_at}
 use Rattle.model.specs.Faults.{fault}
 use Rattle.model.specs.Terrain.{land}
@@ -37,7 +37,7 @@ pub record AsWorkedOut (m : Worked) : Type 0 where
 
 -- ALL WORKED MODELS come out as they were worked out
 abbrev pub WorkedModels : Type 0
-WorkedModels = All AsWorkedOut worked_models
+WorkedModels = AllByRecursion AsWorkedOut worked_models
 
 -- THREE LINES are printed of the hollow whose rim has a gap
 abbrev pub SpillPrints : Type 0

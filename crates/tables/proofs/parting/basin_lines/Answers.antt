@@ -2,7 +2,7 @@ use Rattle.std.proofs.Common.{[], ◌++◌, string_bytes, ap, ◌∙◌}
 use Rattle.basins.specs.Parting.{basin_at}
 use Rattle.tables.specs.Basins.{basin_if}
 use Rattle.tables.proofs.Texts.{joined_more}
-use Rattle.tables.proofs.basins.basin_lines.Goals as goal
+use Rattle.tables.proofs.parting.basin_lines.Goals as goal
 
 pub loop-c-preserved : goal.loop-c-preserved
 loop-c-preserved c =

@@ -9,7 +9,7 @@ use Rattle.basins.specs.Draining.{basin_of}
 use Rattle.basins.specs.Parting.{basin_at}
 use Rattle.tables.specs.Basins.{basin_if}
 use Rattle.tables.proofs.Texts.{joined_same}
-use Rattle.tables.proofs.basins.parted_into.Goals as goal
+use Rattle.tables.proofs.parting.parted_into.Goals as goal
 
 pub returns : goal.returns
 returns c =
