@@ -6,7 +6,7 @@
 run:
 	@sh tests/need.sh rt
 	@echo "proving and building drain; the first time takes some minutes"
-	@log=$$(mktemp) && { rt check drain >"$$log" 2>&1 || { tail -n 20 "$$log"; rm -f "$$log"; exit 1; }; } && rm -f "$$log"
+	@sh tools/build.sh drain && sh tools/place.sh drain
 	target/bin/drain examples/valley.bin
 
 test:

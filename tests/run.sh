@@ -10,12 +10,17 @@ if [ "$(cat "$scratch/status")" -ne 0 ]; then
     echo "rt ci failed"
     exit 1
 fi
+if grep -q '^rt: ok.*, [0-9][0-9]* bad' "$scratch/ci"; then
+    echo "rt ci found edits that are bad"
+    exit 1
+fi
 proved=$(tail -n 1 "$scratch/ci" | sed -n 's/^\([0-9][0-9]*\) passed, 0 failed$/\1/p')
 if [ -z "$proved" ]; then
     echo "rt ci did not end with its count"
     exit 1
 fi
 
+sh tools/place.sh drain check change || exit 1
 sh tests/programs.sh "$scratch" || exit 1
 tested=$(cat "$scratch/count") || exit 1
 compared=$(python3 -B tests/random_models.py target/bin "$scratch/random") || exit 1
