@@ -1,5 +1,5 @@
 # make run   proves and builds the drain program, and drains the example valley
-# make test  proves every crate from nothing and runs every test; its last line counts them
+# make test  proves every crate and runs every test; its last line counts them
 # make bench times the drain beside C++; see bench/README.md
 .PHONY: run test bench
 

@@ -1,5 +1,5 @@
 #!/bin/sh
-# Every check of the repository: the proofs from nothing, then the programs from outside. The last line counts them all.
+# Every check of the repository: the proofs, then the programs from outside. The last line counts them all.
 cd "$(dirname "$0")/.." || exit 1
 sh tests/need.sh rt python3 cmp tee || exit 1
 scratch=$(mktemp -d) || exit 1
