@@ -13,7 +13,7 @@
 #include <unistd.h>
 #include <vector>
 
-// The proved drain, from target/staticlib/libbench_api.a; a slice is passed as its start and its length.
+// The proved drain, from crates/bench_api/out/libbench_api.a; a slice is passed as its start and its length.
 extern "C" Answer zaefmoln_drain(const std::uint8_t *, std::size_t, std::uint32_t *, std::size_t, std::uint32_t *, std::size_t,
                                  std::uint64_t *, std::size_t, std::uint64_t *, std::size_t);
 
