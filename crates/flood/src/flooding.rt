@@ -41,7 +41,7 @@ fn put(
 {
     let n = levels.len();
     levels[entry.cell.index()] = entry.level.0;
-    flow[entry.cell.index()] = sends.code();
+    flow[entry.cell.index()] = u32::from(sends);
     if let Some(looks) = queue::push(&mut work[0..n], progress.queued, entry) {
         progress.queued += 1;
         progress.looks += looks;

@@ -14,22 +14,23 @@ pub enum Sends {
 // The code of off, which is no cell's number; in a slice of levels it stands for none yet.
 pub const NONE: u32 = 4_294_967_295;
 
-impl Sends {
-    // As it is coded in a lent slice.
-    pub fn code(self) -> u32
-        ensures { result ≡ sends_code self }
-    {
-        match self {
+// As it is coded in a lent slice.
+impl From<Sends> for u32 {
+    ghost from_gives = { λ sends code. code ≡ sends_code sends };
+
+    fn from(sends: Sends) -> u32 {
+        match sends {
             Sends::Off => NONE,
             Sends::To(cell) => cell.0,
         }
     }
+}
 
-    // Where a code says that a cell sends.
-    pub fn of_code(code: u32) -> Sends
-        ensures value { result ≡ sends_of code }
-        ensures back { sends_code result ≡ code }
-    {
+// Where a code says that a cell sends.
+impl From<u32> for Sends {
+    ghost from_gives = { λ code sends. (sends ≡ sends_of code) × (sends_code sends ≡ code) };
+
+    fn from(code: u32) -> Sends {
         if code == NONE {
             Sends::Off
         } else {
