@@ -8,5 +8,6 @@ pub mod WellFormed
 pub mod Terrain
 pub mod Of
 pub mod OfModel
+pub mod Slices
 pub mod Edits
 pub mod Theorems

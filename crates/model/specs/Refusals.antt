@@ -1,5 +1,5 @@
 -- The number and the place that are reported for each refusal.
-use Rattle.std.specs.Prelude.{ℕ}
+use Rattle.std.specs.Prelude.{ℕ, List, ◌++◌, codes, decimal}
 use Rattle.model.specs.declared.refusal.Side.{Side}
 use Rattle.model.specs.declared.refusal.Side.TheVariants.{Columns, Rows}
 use Rattle.model.specs.declared.refusal.Lent.{Lent}
@@ -42,3 +42,7 @@ place (Table len) = len
 place (Level c) = c.0
 place (Sends c) = c.0
 place (Amount c) = c.0
+
+-- how a refusal is printed, in decimal numbers
+abbrev pub refused_text : Refusal → List ℕ
+refused_text r = codes "refused " ++ (decimal (number r) ++ (codes " at " ++ decimal (place r)))

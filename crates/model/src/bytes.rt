@@ -1,6 +1,6 @@
 // The bytes of a model file: whole numbers, low byte first, and the part that each cell has.
-ghost use Rattle.std.specs.Prelude.{◌≡◌, ◌≤◌, length};
-ghost use Rattle.model.specs.Bytes.{two, four, start, cell_part, height_in, rain_in, mark_in};
+ghost use Rattle.std.specs.Prelude.{◌≡◌};
+ghost use Rattle.model.specs.Bytes.{start, cell_part, height_in, rain_in, mark_in};
 
 use crate::limits::{CELL_BYTES, HEAD_BYTES};
 use crate::units::Cell;
@@ -9,22 +9,6 @@ use crate::units::Cell;
 pub(crate) const RAIN_AT: usize = 4;
 
 pub(crate) const MARK_AT: usize = 8;
-
-// The number in the first two bytes.
-pub(crate) fn read_two(part: &[u8]) -> u32
-    requires { 2 ≤ length part.now }
-    ensures { result ≡ two part.now }
-{
-    u32::from(u16::from_le_bytes([part[0], part[1]]))
-}
-
-// The number in the first four bytes.
-fn read_four(part: &[u8]) -> u32
-    requires { 4 ≤ length part.now }
-    ensures { result ≡ four part.now }
-{
-    u32::from_le_bytes([part[0], part[1], part[2], part[3]])
-}
 
 // Where the bytes of a cell begin.
 pub(crate) fn cell_start(cell: Cell) -> usize
@@ -46,28 +30,22 @@ pub(crate) fn part_of(bytes: &[u8], cell: Cell) -> &[u8]
 pub(crate) fn height_in(part: &[u8]) -> Option<u32>
     ensures { result ≡ height_in part.now }
 {
-    if part.len() < RAIN_AT {
-        return None;
-    }
-    Some(read_four(part))
+    let bytes = part.first_chunk()?;
+    Some(u32::from_le_bytes(*bytes))
 }
 
 // The rain in a cell's bytes, if they hold it whole.
 pub(crate) fn rain_in(part: &[u8]) -> Option<u32>
     ensures { result ≡ rain_in part.now }
 {
-    if part.len() < MARK_AT {
-        return None;
-    }
-    Some(read_four(&part[RAIN_AT..]))
+    let bytes = part.get(RAIN_AT..)?.first_chunk()?;
+    Some(u32::from_le_bytes(*bytes))
 }
 
 // The drain mark in a cell's bytes, if they hold it.
 pub(crate) fn mark_in(part: &[u8]) -> Option<u32>
     ensures { result ≡ mark_in part.now }
 {
-    if part.len() < CELL_BYTES {
-        return None;
-    }
-    Some(u32::from(part[MARK_AT]))
+    let mark = part.get(MARK_AT)?;
+    Some(u32::from(*mark))
 }

@@ -8,6 +8,7 @@ pub mod land;
 pub mod limits;
 pub mod reading;
 pub mod refusal;
+pub mod slices;
 pub mod steps;
 #[cfg(test)]
 mod tests;

@@ -1,12 +1,14 @@
-// Reading a model file front to back: its grid, or its first fault.
+// Reading a model file front to back: the model, or its first fault.
 ghost use Rattle.std.specs.Prelude.{◌≡◌, ◌≤◌, length, IfOk, MatchResult};
 ghost use Rattle.std.specs.Result.{result_err};
 ghost use Rattle.model.specs.Faults.{field_fault, cell_fault, head_fault, fault};
 ghost use Rattle.model.specs.Of.{Sized};
+ghost use Rattle.model.specs.OfModel.{bytes_of};
 ghost use Rattle.model.specs.WellFormed.{WellFormed, RefusedAt};
 
-use crate::bytes::{MARK_AT, RAIN_AT, cell_start, height_in, mark_in, part_of, rain_in, read_two};
+use crate::bytes::{MARK_AT, RAIN_AT, cell_start, height_in, mark_in, part_of, rain_in};
 use crate::grid::Grid;
+use crate::land::Model;
 use crate::limits::{HEAD_BYTES, MAX_HEIGHT, MAX_RAIN};
 use crate::refusal::Refusal;
 use crate::units::Cell;
@@ -19,10 +21,12 @@ fn read_head(bytes: &[u8]) -> Result<Grid, Refusal>
     ensures fault { result_err result ≡ head_fault bytes.now }
     ensures grid { IfOk result (λ g. Sized g bytes.now) }
 {
-    if bytes.len() < HEAD_BYTES {
+    let Some([a, b, c, d]) = bytes.first_chunk::<HEAD_BYTES>() else {
         return Err(Refusal::Length(bytes.len()));
-    }
-    Grid::new(read_two(bytes), read_two(&bytes[2..]))
+    };
+    let columns = u16::from_le_bytes([*a, *b]);
+    let rows = u16::from_le_bytes([*c, *d]);
+    Grid::new(u32::from(columns), u32::from(rows))
 }
 
 // The fault of a field that begins at `at` in a file of `length` bytes.
@@ -47,10 +51,11 @@ fn check_cell(bytes: &[u8], cell: Cell) -> Result<(), Refusal>
     check_field(mark_in(part), MAX_MARK, at + MARK_AT, bytes.len())
 }
 
-// The grid of a file that is well formed, else its first fault. Nothing is changed.
-pub fn read(bytes: &[u8]) -> Result<Grid, Refusal>
+// The model in the bytes of a file that is well formed, else its first fault. Nothing is changed.
+pub fn read(bytes: &[u8]) -> Result<Model<'_>, Refusal>
     ensures fault { result_err result ≡ fault bytes.now }
-    ensures grid { IfOk result (λ g. Sized g bytes.now) }
+    ensures model { IfOk result (λ m. bytes_of m ≡ bytes.now) }
+    ensures grid { IfOk result (λ m. Sized m.grid bytes.now) }
     ensures meaning { MatchResult result (λ _. WellFormed bytes.now) (λ e. RefusedAt bytes.now e) }
 {
     let grid = read_head(bytes)?;
@@ -61,5 +66,5 @@ pub fn read(bytes: &[u8]) -> Result<Grid, Refusal>
     if bytes.len() > end {
         return Err(Refusal::Length(end));
     }
-    Ok(grid)
+    Ok(Model::new(grid, bytes))
 }

@@ -1,17 +1,19 @@
 // Why something is refused, and where: one enum for the whole project.
-ghost use Rattle.std.specs.Prelude.{◌≡◌};
-ghost use Rattle.model.specs.Refusals.{number, place};
+ghost use Rattle.std.specs.Prelude.{◌≡◌, Some};
+ghost use Rattle.model.specs.Refusals.{number, place, refused_text};
 
 use crate::units::Cell;
+use std::error::Error;
+use std::fmt;
 
-// One of the two numbers at the head of a model file.
+// One of the two numbers at the head of a model file, by the byte at which it begins.
 #[derive(Clone, Copy, PartialEq, Eq, Debug)]
 pub enum Side {
-    Columns,
-    Rows,
+    Columns = 0,
+    Rows = 2,
 }
 
-// A slice that the caller lends.
+// A slice that the caller lends, in the order in which they are passed.
 #[derive(Clone, Copy, PartialEq, Eq, Debug)]
 pub enum Lent {
     Levels,
@@ -66,13 +68,9 @@ impl Refusal {
     {
         match self {
             Refusal::Length(at) => at,
-            Refusal::Size(Side::Columns) => 0,
-            Refusal::Size(Side::Rows) => 2,
+            Refusal::Size(side) => side as usize,
             Refusal::Value(at) => at,
-            Refusal::Short(Lent::Levels) => 0,
-            Refusal::Short(Lent::Flow) => 1,
-            Refusal::Short(Lent::Amounts) => 2,
-            Refusal::Short(Lent::Work) => 3,
+            Refusal::Short(lent) => lent as usize,
             Refusal::Change(change) => change,
             Refusal::Table(length) => length,
             Refusal::Level(cell) => cell.index(),
@@ -81,3 +79,15 @@ impl Refusal {
         }
     }
 }
+
+impl fmt::Display for Refusal {
+    ghost output = { λ r. Some (refused_text r) };
+
+    fn fmt<W: fmt::Write>(&self, f: &mut fmt::Formatter<W>) -> fmt::Result {
+        let number = self.number();
+        let place = self.place();
+        write!(f, "refused {number} at {place}")
+    }
+}
+
+impl Error for Refusal {}

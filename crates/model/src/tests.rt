@@ -1,6 +1,5 @@
 // Examples of reading, values, neighbours and writes, worked out by hand from the layout of a model file.
 use crate::edits::{write_drain, write_height, write_rain};
-use crate::land::Model;
 use crate::reading::read;
 use crate::refusal::{Lent, Refusal};
 use crate::units::{Amount, Cell, Height};
@@ -91,10 +90,8 @@ fn numbers_every_refusal(rt: HostRuntime) {
 
 #[test]
 fn knows_values_and_neighbours(rt: HostRuntime) -> Result<(), Fail> {
-    let Ok(grid) = read(&SQUARE) else {
-        return Err(Fail::new("the square is refused"));
-    };
-    let model = Model::new(grid, &SQUARE);
+    let model = read(&SQUARE)?;
+    let grid = model.grid();
     assert_eq!(rt; model.height(Cell(1)), Some(Height(256)));
     assert_eq!(rt; model.height(Cell(3)), Some(Height(1_000_000)));
     assert_eq!(rt; model.height(Cell(4)), None);
@@ -110,17 +107,15 @@ fn knows_values_and_neighbours(rt: HostRuntime) -> Result<(), Fail> {
 #[test]
 fn writes_one_value(rt: HostRuntime) -> Result<(), Fail> {
     let mut bytes = SQUARE;
-    let Ok(grid) = read(&SQUARE) else {
-        return Err(Fail::new("the square is refused"));
-    };
-    assert!(rt; !write_height(grid, &mut bytes, Cell(4), Height(1)));
-    assert!(rt; !write_height(grid, &mut bytes, Cell(0), Height(1_000_001)));
-    assert!(rt; !write_rain(grid, &mut bytes, Cell(0), Amount(1_000_001)));
-    assert!(rt; !write_drain(grid, &mut bytes, Cell(4), true));
+    let grid = read(&SQUARE)?.grid();
+    assert!(rt; write_height(grid, &mut bytes, Cell(4), Height(1)).is_err());
+    assert!(rt; write_height(grid, &mut bytes, Cell(0), Height(1_000_001)).is_err());
+    assert!(rt; write_rain(grid, &mut bytes, Cell(0), Amount(1_000_001)).is_err());
+    assert!(rt; write_drain(grid, &mut bytes, Cell(4), true).is_err());
     assert!(rt; bytes == SQUARE);
-    assert!(rt; write_height(grid, &mut bytes, Cell(1), Height(515)));
-    assert!(rt; write_rain(grid, &mut bytes, Cell(2), Amount(65_536)));
-    assert!(rt; write_drain(grid, &mut bytes, Cell(3), false));
+    assert!(rt; write_height(grid, &mut bytes, Cell(1), Height(515)).is_ok());
+    assert!(rt; write_rain(grid, &mut bytes, Cell(2), Amount(65_536)).is_ok());
+    assert!(rt; write_drain(grid, &mut bytes, Cell(3), false).is_ok());
     let expected = [
         2, 0, 2, 0, //
         7, 0, 0, 0, 1, 0, 0, 0, 0, //

@@ -27,6 +27,6 @@ impl Height {
     pub fn higher(self, other: Height) -> Height
         ensures { result.0 ≡ max self.0 other.0 }
     {
-        if self < other { other } else { self }
+        self.max(other)
     }
 }

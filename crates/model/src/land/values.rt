@@ -1,5 +1,5 @@
 // The values of a model's cells, and where water leaves.
-ghost use Rattle.std.specs.Prelude.{◌≡◌, ◌&&◌, None, nat_lt};
+ghost use Rattle.std.specs.Prelude.{◌≡◌, ◌&&◌, None, if◌then◌else◌, nat_lt};
 ghost use Rattle.std.specs.Option.{option_map};
 ghost use Rattle.model.specs.Bytes.{count, height_at, rain_at};
 ghost use Rattle.model.specs.Faults.{fault};
@@ -51,6 +51,20 @@ impl<'a> Model<'a> {
     {
         let rain = rain_in(part_of(self.bytes, cell))?;
         Some(Amount(u64::from(rain)))
+    }
+
+    // The height of a cell, 0 where there is no such cell.
+    pub fn height_of(&self, cell: Cell) -> Height
+        ensures { result.0 ≡ (if nat_lt cell.0 (count (bytes_of self.now)) then height_at (bytes_of self.now) cell.0 else 0) }
+    {
+        self.height(cell).unwrap_or(Height(0))
+    }
+
+    // The rain on a cell, 0 where there is no such cell.
+    pub fn rain_of(&self, cell: Cell) -> Amount
+        ensures { result.0 ≡ (if nat_lt cell.0 (count (bytes_of self.now)) then rain_at (bytes_of self.now) cell.0 else 0) }
+    {
+        self.rain(cell).unwrap_or(Amount(0))
     }
 
     // The cell that a step leads to, if there is one.

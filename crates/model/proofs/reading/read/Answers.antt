@@ -11,7 +11,7 @@ pub returns-in_err-grid : goal.returns-in_err-grid
 returns-in_err-grid c =
     let p = err_from_is_err_and c.from_residual.result c.from_residual.ensures.1 in
     let first = fault_in_head c.args.bytes.now _ c.in_err-grid.ensures.fault in
-    rw (p.1, p.2) (record { fault = first; grid = tt; meaning = refused_at c.args.bytes.now _ first })
+    rw (p.1, p.2) (record { fault = first; model = tt; grid = tt; meaning = refused_at c.args.bytes.now _ first })
 
 pub returns-in_err-check_cell : goal.returns-in_err-check_cell
 returns-in_err-check_cell c =
@@ -20,7 +20,7 @@ returns-in_err-check_cell c =
     let head = c.in_ok-grid.ensures in
     let at = c.loop-c.invariant ∙ cell_first bs c.loop-c.c _ _ (omega arith) c.in_err-check_cell.ensures in
     let first = fault_in_cells bs _ _ head.fault (ap₂ ◌*◌ head.grid.w head.grid.h) at in
-    rw (p.1, p.2) (record { fault = first; grid = tt; meaning = refused_at bs _ first })
+    rw (p.1, p.2) (record { fault = first; model = tt; grid = tt; meaning = refused_at bs _ first })
 
 pub loop-c-preserved : goal.loop-c-preserved
 loop-c-preserved c = c.loop-c.invariant ∙ cell_passed c.args.bytes.now c.loop-c.c _ (omega arith) c.in_ok-check_cell.ensures
@@ -32,7 +32,15 @@ returns-then-bytes-end c =
     let none = c.loop-c.invariant ∙ cells_none bs c.loop-c.c _ (omega arith) in
     let end = c.cell_start-end.ensures ∙ ap start c.cells.ensures in
     let first = fault_past_cells bs _ _ head.fault (ap₂ ◌*◌ head.grid.w head.grid.h) none end c.if-bytes-end.true in
-    record { fault = first; grid = tt; meaning = refused_at bs _ first }
+    record { fault = first; model = tt; grid = tt; meaning = refused_at bs _ first }
+
+pub new-requires-clause-taken : goal.new-requires-clause-taken
+new-requires-clause-taken c =
+    let bs = c.args.bytes.now in
+    let head = c.in_ok-grid.ensures in
+    let none = c.loop-c.invariant ∙ cells_none bs c.loop-c.c _ (omega arith) in
+    let end = c.cell_start-end.ensures ∙ ap start c.cells.ensures in
+    sym (no_fault bs _ _ head.fault (ap₂ ◌*◌ head.grid.w head.grid.h) none end c.if-bytes-end.false)
 
 pub returns : goal.returns
 returns c =
@@ -41,4 +49,4 @@ returns c =
     let none = c.loop-c.invariant ∙ cells_none bs c.loop-c.c _ (omega arith) in
     let end = c.cell_start-end.ensures ∙ ap start c.cells.ensures in
     let nothing = no_fault bs _ _ head.fault (ap₂ ◌*◌ head.grid.w head.grid.h) none end c.if-bytes-end.false in
-    record { fault = nothing; grid = head.grid; meaning = well_formed bs (sym nothing) }
+    record { fault = nothing; model = c.new.ensures.bytes; grid = rw c.new.ensures.grid c.in_ok-grid.ensures.grid; meaning = well_formed bs (sym nothing) }
