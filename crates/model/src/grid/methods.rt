@@ -89,13 +89,7 @@ impl Grid {
     pub fn neighbours(self, cell: Cell) -> [Option<Cell>; 4]
         ensures { map (option_map number) result ≡ map (λ s. neighbour self s cell) four_sides }
     {
-        let [up, left, right, down] = SIDES;
-        [
-            self.neighbour(cell, up),
-            self.neighbour(cell, left),
-            self.neighbour(cell, right),
-            self.neighbour(cell, down),
-        ]
+        SIDES.map(|side| self.neighbour(cell, side))
     }
 
     // Whether a cell is one of the border.
