@@ -1,7 +1,7 @@
 // A binary heap of levels and cells in the front of a lent slice, one word an entry: the lowest comes out first.
 #![tactic(auto)]
 
-ghost use Rattle.std.specs.Prelude.{ℕ, ◌+◌, ◌-◌, ◌^◌, ◌<◌, ◌≤◌, length};
+ghost use Rattle.std.specs.Prelude.{◌≡◌, ℕ, ◌+◌, ◌-◌, ◌^◌, ◌<◌, ◌≤◌, length, MatchOption};
 ghost use Rattle.queue.specs.Heap.{Heap, Gains, Rest};
 ghost use Rattle.queue.specs.Limits.{most_entries, most_looks};
 ghost use Rattle.queue.specs.Calls.{word_of, Lowest, Pushes, Takes, Pops, Answered};
@@ -15,8 +15,8 @@ pub mod rows;
 mod tests;
 mod up;
 
-// A cell with the level that it stands in the queue with.
-#[derive(Clone, Copy, PartialEq, Eq, Debug)]
+// A cell with the level that it stands in the queue with. Lower levels come first, of equal levels lower numbers.
+#[derive(Clone, Copy, PartialEq, Eq, PartialOrd, Ord, Debug)]
 pub struct Entry {
     pub level: Height,
     pub cell: Cell,
@@ -29,35 +29,71 @@ pub struct Popped {
     pub looks: u32,
 }
 
-// Adds an entry to the heap in the first `len` words, which are then `len + 1`. Returns the number of looks, or nothing where the slice is full.
-pub fn push(heap: &mut [u64], len: usize, entry: Entry) -> Option<u32>
-    ensures after { Pushes heap.old len entry heap.new result }
-    ensures order { len < length heap.old → Heap heap.old len → Heap heap.new (len + 1) }
-    ensures content { len < length heap.old → Gains heap.old len (word_of entry) heap.new (len + 1) }
-    ensures rest { Rest heap.old (len + 1) heap.new }
-    ensures few { Answered result (λ looks. (k : ℕ) → len < 2 ^ k → looks ≤ k) }
-    ensures limit { len ≤ most_entries → Answered result (λ looks. looks ≤ most_looks) }
-{
-    if len >= heap.len() {
-        return None;
-    }
-    Some(up::sift_up(heap, len, entry.word()))
+// A heap in a part of a lent slice: the entries stand in the first `len` words.
+#[derive(Drop)]
+pub struct Queue<'a> {
+    pub words: &'a mut [u64],
+    pub len: usize,
 }
 
-// Takes the lowest entry out of the heap in the first `len` words, which are then `len - 1`. Returns nothing where there is none.
-pub fn pop(heap: &mut [u64], len: usize) -> Option<Popped>
-    ensures after { Pops heap.old len heap.new result }
-    ensures lowest { Heap heap.old len → Answered result (λ p. Lowest p.entry heap.old len) }
-    ensures order { Heap heap.old len → Heap heap.new (len - 1) }
-    ensures content { Answered result (λ p. Gains heap.new (len - 1) (word_of p.entry) heap.old len) }
-    ensures rest { Rest heap.old (len - 1) heap.new }
-    ensures few { Answered result (λ p. (k : ℕ) → len ≤ 2 ^ k → p.looks ≤ k) }
-    ensures limit { len ≤ most_entries → Answered result (λ p. p.looks ≤ most_looks) }
-{
-    if len == 0 || len > heap.len() {
-        return None;
+impl<'a> Queue<'a> {
+    // The queue of what stands in the first `len` words. Where there are fewer words, it takes and gives nothing.
+    pub fn new(words: &'a mut [u64], len: usize) -> Queue<'a>
+        ensures same_reference { result.words.ghost_name ≡ words.entry.ghost_name }
+        ensures words { result.words.now ≡ words.old }
+        ensures len { result.len ≡ len }
+    {
+        Queue { words, len }
     }
-    Some(take_first(heap, len))
+
+    // How many entries are in.
+    pub fn len(&self) -> usize
+        ensures { result ≡ self.now.len }
+    {
+        self.len
+    }
+
+    // Adds an entry. Returns the number of looks, or nothing where the slice is full.
+    pub fn push(&mut self, entry: Entry) -> Option<u32>
+        ensures same_reference { self.new.words.ghost_name ≡ self.old.words.ghost_name }
+        ensures after { Pushes self.old.words.now self.old.len entry self.new.words.now result }
+        ensures len { MatchOption result (self.new.len ≡ self.old.len) (λ _. self.new.len ≡ self.old.len + 1) }
+        ensures order { Heap self.old.words.now self.old.len → Heap self.new.words.now self.new.len }
+        ensures content { self.old.len < length self.old.words.now →
+            Gains self.old.words.now self.old.len (word_of entry) self.new.words.now self.new.len }
+        ensures rest { Rest self.old.words.now (self.old.len + 1) self.new.words.now }
+        ensures few { Answered result (λ looks. (k : ℕ) → self.old.len < 2 ^ k → looks ≤ k) }
+        ensures limit { self.old.len ≤ most_entries → Answered result (λ looks. looks ≤ most_looks) }
+    {
+        if self.len >= self.words.len() {
+            return None;
+        }
+        let looks = up::sift_up(self.words, self.len, entry.word());
+        self.len += 1;
+        Some(looks)
+    }
+
+    // Takes the lowest entry out. Returns nothing where there is none.
+    pub fn pop(&mut self) -> Option<Popped>
+        ensures same_reference { self.new.words.ghost_name ≡ self.old.words.ghost_name }
+        ensures after { Pops self.old.words.now self.old.len self.new.words.now result }
+        ensures len { MatchOption result (self.new.len ≡ self.old.len) (λ _. self.new.len ≡ self.old.len - 1) }
+        ensures lowest { Heap self.old.words.now self.old.len →
+            Answered result (λ p. Lowest p.entry self.old.words.now self.old.len) }
+        ensures order { Heap self.old.words.now self.old.len → Heap self.new.words.now self.new.len }
+        ensures content { Answered result (λ p.
+            Gains self.new.words.now self.new.len (word_of p.entry) self.old.words.now self.old.len) }
+        ensures rest { Rest self.old.words.now (self.old.len - 1) self.new.words.now }
+        ensures few { Answered result (λ p. (k : ℕ) → self.old.len ≤ 2 ^ k → p.looks ≤ k) }
+        ensures limit { self.old.len ≤ most_entries → Answered result (λ p. p.looks ≤ most_looks) }
+    {
+        if self.len == 0 || self.len > self.words.len() {
+            return None;
+        }
+        let popped = take_first(self.words, self.len);
+        self.len -= 1;
+        Some(popped)
+    }
 }
 
 // Takes the first of the first `len` words out, and lets the last of them go down from there among the others.

@@ -25,37 +25,39 @@ fn given(level: u32, cell: u32, looks: u32) -> Option<Popped>
 // Of equal levels the lower number comes out first.
 #[test]
 fn ties_go_by_number(rt: HostRuntime) {
-    let mut heap = [0; 4];
-    assert_eq!(rt; push(&mut heap, 0, entry(5, 2)), Some(0));
-    assert_eq!(rt; push(&mut heap, 1, entry(5, 1)), Some(1));
-    assert_eq!(rt; push(&mut heap, 2, entry(3, 9)), Some(1));
-    assert_eq!(rt; push(&mut heap, 3, entry(5, 0)), Some(2));
-    assert_eq!(rt; pop(&mut heap, 4), given(3, 9, 1));
-    assert_eq!(rt; pop(&mut heap, 3), given(5, 0, 1));
-    assert_eq!(rt; pop(&mut heap, 2), given(5, 1, 0));
-    assert_eq!(rt; pop(&mut heap, 1), given(5, 2, 0));
+    let mut words = [0; 4];
+    let mut queue = Queue::new(&mut words, 0);
+    assert_eq!(rt; queue.push(entry(5, 2)), Some(0));
+    assert_eq!(rt; queue.push(entry(5, 1)), Some(1));
+    assert_eq!(rt; queue.push(entry(3, 9)), Some(1));
+    assert_eq!(rt; queue.push(entry(5, 0)), Some(2));
+    assert_eq!(rt; queue.pop(), given(3, 9, 1));
+    assert_eq!(rt; queue.pop(), given(5, 0, 1));
+    assert_eq!(rt; queue.pop(), given(5, 1, 0));
+    assert_eq!(rt; queue.pop(), given(5, 2, 0));
 }
 
 // An entry stops below an equal parent and above an equal child, and the look that shows it counts.
 #[test]
 fn equals_stop(rt: HostRuntime) {
-    let mut heap = [0; 3];
-    assert_eq!(rt; push(&mut heap, 0, entry(1, 1)), Some(0));
-    assert_eq!(rt; push(&mut heap, 1, entry(1, 1)), Some(1));
-    assert_eq!(rt; push(&mut heap, 2, entry(1, 1)), Some(1));
-    assert_eq!(rt; pop(&mut heap, 3), given(1, 1, 1));
+    let mut words = [0; 3];
+    let mut queue = Queue::new(&mut words, 0);
+    assert_eq!(rt; queue.push(entry(1, 1)), Some(0));
+    assert_eq!(rt; queue.push(entry(1, 1)), Some(1));
+    assert_eq!(rt; queue.push(entry(1, 1)), Some(1));
+    assert_eq!(rt; queue.pop(), given(1, 1, 1));
 }
 
 // A full part takes no entry, an empty one gives none, and what lies behind stays.
 #[test]
 fn refusals_change_nothing(rt: HostRuntime) {
-    let mut heap = [7, 8];
-    assert_eq!(rt; push(&mut heap, 2, entry(1, 1)), None);
-    assert_eq!(rt; pop(&mut heap, 0), None);
-    assert_eq!(rt; pop(&mut heap, 3), None);
-    assert_eq!(rt; heap, [7, 8]);
-    assert_eq!(rt; push(&mut heap, 0, entry(0, 1)), Some(0));
-    assert_eq!(rt; heap, [1, 8]);
+    let mut words = [7, 8];
+    assert_eq!(rt; Queue::new(&mut words, 2).push(entry(1, 1)), None);
+    assert_eq!(rt; Queue::new(&mut words, 0).pop(), None);
+    assert_eq!(rt; Queue::new(&mut words, 3).pop(), None);
+    assert_eq!(rt; words, [7, 8]);
+    assert_eq!(rt; Queue::new(&mut words, 0).push(entry(0, 1)), Some(0));
+    assert_eq!(rt; words, [1, 8]);
 }
 
 // The level stands in the high half of a word.

@@ -2,12 +2,15 @@
 #![tactic(auto)]
 
 use model::units::{Cell, Height};
-use queue::{Entry, pop, push};
+use queue::{Entry, Queue};
 use std::alloc::{AllocError, Global};
+use std::iter::successors;
 
 const ENTRIES: usize = 100_000;
 
 const LEVELS: u32 = 50;
+
+const CELLS: u32 = 160_000;
 
 const MOST_LOOKS: u32 = 17;
 
@@ -16,46 +19,40 @@ fn next_number(number: u32) -> u32 {
     number.wrapping_mul(1_664_525).wrapping_add(1_013_904_223)
 }
 
-// Level and number of an entry as one number, to sort by.
-fn sort_key(entry: Entry) -> u64 {
-    u64::from(entry.level.0) * 1_000_000 + u64::from(entry.cell.0)
+// The entry that is made of a number of the sequence and the one after it.
+fn made_entry(number: u32) -> Entry {
+    Entry {
+        level: Height((number >> 16) % LEVELS),
+        cell: Cell((next_number(number) >> 8) % CELLS),
+    }
 }
 
 fn made_entries(heap: Global) -> Result<Vec<Entry>, AllocError> {
-    let mut entries = Vec::new(heap);
-    let mut number = 1u32;
-    for _ in 0..ENTRIES {
-        number = next_number(number);
-        let level = Height((number >> 16) % LEVELS);
-        number = next_number(number);
-        let cell = Cell((number >> 8) % 160_000);
-        entries.push(Entry { level, cell })?;
-    }
-    Ok(entries)
+    successors(Some(next_number(1)), |number| {
+        Some(next_number(next_number(*number)))
+    })
+    .take(ENTRIES)
+    .map(made_entry)
+    .collect(heap)
 }
 
-// The keys in the order of a sort.
-fn sorted_keys(heap: Global, entries: &[Entry]) -> Result<Vec<u64>, AllocError> {
-    let mut keys = Vec::new(heap);
-    for entry in entries.iter() {
-        keys.push(sort_key(*entry))?;
-    }
-    keys.sort()?;
-    Ok(keys)
+fn sorted(heap: Global, entries: &[Entry]) -> Result<Vec<Entry>, AllocError> {
+    let mut sorted = entries.to_vec(heap)?;
+    sorted.sort()?;
+    Ok(sorted)
 }
 
-// Whether the entries come out of the queue in the order of their keys, with few looks at each call.
-fn comes_sorted(words: &mut [u64], entries: &[Entry], keys: &[u64]) -> bool {
-    for (len, entry) in entries.iter().enumerate() {
-        match push(words, len, *entry) {
-            Some(looks) if looks <= MOST_LOOKS => {}
-            _ => return false,
+// Whether the entries come out of the queue in the order of a sort, with few looks at each call.
+fn comes_sorted(words: &mut [u64], entries: &[Entry], sorted: &[Entry]) -> bool {
+    let mut queue = Queue::new(words, 0);
+    for entry in entries {
+        if !queue.push(*entry).is_some_and(|looks| looks <= MOST_LOOKS) {
+            return false;
         }
     }
-    for (gone, key) in keys.iter().enumerate() {
-        match pop(words, keys.len() - gone) {
-            Some(popped) if popped.looks <= MOST_LOOKS && sort_key(popped.entry) == *key => {}
-            _ => return false,
+    for entry in sorted {
+        if !queue.pop().is_some_and(|popped| popped.entry == *entry && popped.looks <= MOST_LOOKS) {
+            return false;
         }
     }
     true
@@ -63,8 +60,8 @@ fn comes_sorted(words: &mut [u64], entries: &[Entry], keys: &[u64]) -> bool {
 
 fn main(rt: HostRuntime) -> std::io::Result<()> {
     let entries = made_entries(rt.alloc())?;
-    let keys = sorted_keys(rt.alloc(), &entries)?;
+    let sorted = sorted(rt.alloc(), &entries)?;
     let mut words = vec![in rt.alloc(); 0u64; ENTRIES]?;
-    let sorted = comes_sorted(&mut words, &entries, &keys);
-    println!(rt; "entries {ENTRIES} as sorted {sorted}")
+    let as_sorted = comes_sorted(&mut words, &entries, &sorted);
+    println!(rt; "entries {ENTRIES} as sorted {as_sorted}")
 }

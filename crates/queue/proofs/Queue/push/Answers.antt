@@ -1,18 +1,20 @@
-use Rattle.std.proofs.Common.{sym, ap, ◌∙◌, subst, arith}
+use Rattle.std.proofs.Common.{rules, sym, ap, ◌∙◌, subst, arith}
 use Rattle.queue.specs.Heap.{pushed}
 use Rattle.queue.specs.Limits.{most_looks}
 use Rattle.queue.proofs.Laws.{AfterPush, after_push}
-use Rattle.queue.proofs.push.Goals as goal
+use Rattle.queue.proofs.Queue.push.Goals as goal
 
 pub returns : goal.returns
 returns c =
-    let xs = c.args.heap.now in
-    let len = c.args.len in
-    let is = c.sift_up.ensures ∙ ap (pushed xs len) c.word.ensures.coded in
+    let xs = c.args.self.now.words.now in
+    let len = c.args.self.now.len in
+    let is = c.sift_up-looks.ensures ∙ ap (pushed xs len) c.word.ensures.coded in
     let law = subst (AfterPush xs len _) (sym is) (after_push xs len _ (omega arith)) in
     record {
-      after = (omega arith, is);
-      order = λ _. law.order;
+      same_reference = search rules;
+      after = search rules;
+      len = search rules;
+      order = law.order;
       content = λ _. law.content;
       rest = law.rest;
       few = law.few;
