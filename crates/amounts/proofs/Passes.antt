@@ -1,5 +1,7 @@
 -- The loop that passes amounts on, from the last place to the first, over the table of a model.
-use Rattle.std.proofs.Common.{◌≡◌, ℕ, suc, ◌+◌, ◌-◌, ◌^◌, ◌<◌, ◌≤◌, false, eqb, List, length, get_or, sym, ap, ◌∙◌, subst, arith}
+use Rattle.std.proofs.Common.{◌≡◌, ℕ, suc, ◌+◌, ◌-◌, ◌^◌, ◌<◌, ◌≤◌, false, eqb, List, length, get_or, reverse, sym, ap, ◌∙◌, subst, add-one, arith}
+use Rattle.std.proofs.lemmas.Grind.{get_or_default_zero}
+use Rattle.std.proofs.lemmas.List.{get_or-reverse, length-reverse}
 use Rattle.std.proofs.lemmas.List.FromFn.{length-map-range_with_len}
 use Rattle.model.specs.Bytes.{count}
 use Rattle.model.specs.Terrain.{terrain, land}
@@ -31,19 +33,18 @@ module _ (bs : List ℕ) (wf : WellFormed bs) where
   pub rain_low : all_rain (land bs) (count bs) ≤ 160000000000
   rain_low = omega (arith, small bs wf, rain_bounded (land bs) 1000000 wf.rains)
 
-  pub passable : (amounts : List ℕ) (p : ℕ) → 0 < p → p ≤ count bs → amounts ≡ accumulated (table_of bs).flow (table_of bs).order (rains (land bs)) (count bs - p) p →
-      Passable (table_of bs).flow amounts (get_or (table_of bs).order (p - 1) 0)
-  passable amounts p some most at_p =
+  pub passable : (amounts : List ℕ) (done : ℕ) → done < count bs → amounts ≡ accumulated (table_of bs).flow (table_of bs).order (rains (land bs)) done (count bs - done) →
+      Passable (table_of bs).flow amounts (get_or (table_of bs).order (count bs - 1 - done) 0)
+  passable amounts done some passed =
       let s = table_of bs in
-      let k = p - 1 in
-      let l : k < count bs = omega arith in
-      let at : p ≡ suc k = omega arith in
-      let e = at_p ∙ ap (λ x. accumulated s.flow s.order (rains (land bs)) (count bs - x) x) at in
+      let k = count bs - 1 - done in
+      let at : count bs - done ≡ suc k = omega arith in
+      let e = passed ∙ ap (accumulated s.flow s.order (rains (land bs)) done) at in
       let c = get_or s.order k 0 in
       let o = ordered in
-      let inside = o.cell k l in
-      let long : length amounts ≡ count bs = ap length e ∙ (rule_keeps_length s.flow s.order (rains (land bs)) (count bs - suc k) (suc k) ∙ length-map-range_with_len (land bs).rain 0 (count bs)) in
-      let fits = rule_sums_fit (land bs) (flow_of s) s.flow s.order o (count bs - suc k) k (omega arith) in
+      let inside = o.cell k (omega arith) in
+      let long : length amounts ≡ count bs = ap length e ∙ (rule_keeps_length s.flow s.order (rains (land bs)) done (suc k) ∙ length-map-range_with_len (land bs).rain 0 (count bs)) in
+      let fits = rule_sums_fit (land bs) (flow_of s) s.flow s.order o done k (omega arith) in
       record {
         in_flow = omega (arith, inside, (table_long bs wf).flow);
         in_amounts = omega (arith, inside, long);
@@ -54,17 +55,20 @@ module _ (bs : List ℕ) (wf : WellFormed bs) where
             );
       }
 
--- one place more
-pub pass_more : (flow order first amounts amounts' : List ℕ) (n p : ℕ) → 0 < p → p ≤ n → amounts ≡ accumulated flow order first (n - p) p → amounts' ≡ passed_on flow (get_or order (p - 1) 0) amounts →
-    amounts' ≡ accumulated flow order first (n - (p - 1)) (p - 1)
-unfolding accumulated
-pass_more flow order first amounts amounts' n p some most e f =
-    let k = p - 1 in
-    let at : p ≡ suc k = omega arith in
-    let more : suc (n - p) ≡ n - k = omega arith in
-    f ∙ (ap (passed_on flow (get_or order k 0)) (e ∙ ap (accumulated flow order first (n - p)) at) ∙ ap (λ d. accumulated flow order first d k) more)
+-- an item of a list that is gone through from its end
+pub from_end : (xs : List ℕ) (n k x : ℕ) → length xs ≡ n → k < length (reverse xs) → x ≡ get_or (reverse xs) k x → (k < n) × (x ≡ get_or xs (n - 1 - k) 0)
+from_end xs n k x long a e =
+    let within : k < length xs = omega (arith, length-reverse xs) in (
+      omega arith,
+      e ∙ (get_or-reverse xs k x within ∙ (get_or_default_zero xs (length xs - 1 - k) x (omega arith) ∙ ap (λ m. get_or xs (m - 1 - k) 0) long)),
+    )
 
--- none yet
-pub pass_none : (flow order first : List ℕ) (n : ℕ) → first ≡ accumulated flow order first (n - n) n
+-- one place more
+pub pass_more : (flow order first amounts amounts' : List ℕ) (n done : ℕ) → done < n → amounts ≡ accumulated flow order first done (n - done) →
+    amounts' ≡ passed_on flow (get_or order (n - 1 - done) 0) amounts → amounts' ≡ accumulated flow order first (done + 1) (n - (done + 1))
 unfolding accumulated
-pass_none flow order first n = let zeroed : 0 ≡ n - n = omega arith in ap (λ d. accumulated flow order first d n) zeroed
+pass_more flow order first amounts amounts' n done some e f =
+    let k = n - 1 - done in
+    let at : n - done ≡ suc k = omega arith in
+    let left : k ≡ n - (done + 1) = omega arith in
+    f ∙ (ap (passed_on flow (get_or order k 0)) (e ∙ ap (accumulated flow order first done) at) ∙ (ap (λ d. accumulated flow order first d k) (sym (add-one done)) ∙ ap (accumulated flow order first (done + 1)) left))

@@ -58,6 +58,10 @@ module _ (bs : List ℕ) (wf : WellFormed bs) where
   pub carried : Carried (land bs) (flow_in bs) (amount_in bs)
   carried = rule_adds_up (land bs) (flow_in bs) (table_of bs).flow (table_of bs).order (ordered bs wf)
 
+  -- no more than all the rain
+  pub leaves_low : all_leaves (table_of bs).flow (table_amounts bs) (length (table_of bs).flow) ≤ 160000000000
+  leaves_low = omega (arith, all_leave, nothing_lost (land bs) (flow_in bs) (amount_in bs) (ordered bs wf).falling carried, rain_low bs wf)
+
   -- what the amounts need of what the flood wrote
   pub pourable : (ls fl wk ls' fl' wk' : List ℕ) → Written (table_of bs) (count bs) ls fl wk ls' fl' wk' →
       (take (count bs) fl' ≡ (table_of bs).flow) × (take (count bs) (drop (count bs) wk') ≡ (table_of bs).order)

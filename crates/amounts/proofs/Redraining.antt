@@ -1,8 +1,12 @@
 -- Old levels that stand in the front of the amounts while new ones are found.
-use Rattle.std.proofs.Common.{◌≡◌, ℕ, ◌+◌, ◌<◌, ◌≤◌, cond, eqb, List, ◌++◌, length, get_or, take, drop, ap, ◌∙◌, ap₂, add-one, arith, length-take}
+use Rattle.std.proofs.Common.{Bool, not, count_by, ◌≡◌, ℕ, ◌+◌, ◌<◌, ◌≤◌, cond, eqb, List, ◌++◌, length, get_or, take, drop, ap, ◌∙◌, ap₂, add-one, arith, length-take}
 use Rattle.std.proofs.lemmas.List.{take_at, drop_at, get_or-take}
+use Rattle.std.proofs.lemmas.Bool.{cases_Bool}
 use Rattle.std.proofs.lemmas.Bool.Decides.{nat_tests}
+use Rattle.std.specs.List.{zip}
+use Rattle.std.proofs.lemmas.Slice.Zip.{length-zip, get_or-zip}
 use Rattle.flood.proofs.Sums.{sum_same}
+use Rattle.amounts.proofs.Sums.{sum_each}
 use Rattle.amounts.specs.Again.{differs, levels_changed}
 
 -- they are as long as the front
@@ -24,13 +28,11 @@ counted before after am front k n same long long' e =
     let within : c < k = omega arith in
     ap₂ (λ x y. cond (eqb x y) 0 1) (get_or-take k before c 0 within) (get_or-take k after c 0 within))
 
--- the count of one cell more, whose level was read as x
-pub count_one : (before after : List ℕ) (c s x : ℕ) → s ≡ levels_changed before after c → x ≡ get_or after c 0 → (get_or before c 0 ≡ x → ⊥) → s + 1 ≡ levels_changed before after (c + 1)
-count_one before after c s x e at other =
-    let one : differs before after c ≡ 1 = grind (arith, nat_tests) in
-    omega (arith, e, one, ap (levels_changed before after) (add-one c))
+-- whether two levels differ
+abbrev pub pair_differs : ℕ × ℕ → Bool
+pair_differs p = not (eqb p.0 p.1)
 
-pub count_none : (before after : List ℕ) (c s x : ℕ) → s ≡ levels_changed before after c → x ≡ get_or after c 0 → get_or before c 0 ≡ x → s ≡ levels_changed before after (c + 1)
-count_none before after c s x e at same =
-    let none : differs before after c ≡ 0 = grind (arith, nat_tests) in
-    omega (arith, e, none, ap (levels_changed before after) (add-one c))
+pub changes_counted : (before after : List ℕ) → length before ≡ length after → count_by pair_differs (zip before after) ≡ levels_changed before after (length after)
+changes_counted before after same =
+    let long : length (zip before after) ≡ length after = omega (arith, length-zip before after) in
+    sum_each (λ p. cond (pair_differs p) 1 0) (differs before after) (zip before after) (0, 0) (λ c a. let at = get_or-zip before after c (0, 0) (omega arith) (omega arith) in let i = cases_Bool (eqb (get_or before c 0) (get_or after c 0)) in rw at (grind (arith, nat_tests))) ∙ ap (levels_changed before after) long

@@ -1,5 +1,7 @@
 -- Sums over cells: of a number that stands at one place only, and what one place more adds.
-use Rattle.std.proofs.Common.{◌≡◌, ℕ, zero, suc, ◌+◌, ◌*◌, ◌<◌, ◌≤◌, cond, eqb, refl, arith}
+use Rattle.std.proofs.Common.{◌≡◌, ℕ, zero, suc, ◌+◌, ◌*◌, ◌<◌, ◌≤◌, cond, eqb, List, length, get_or, take, sum_by, sym, refl, ap, ◌∙◌, add-one, arith}
+use Rattle.std.proofs.Math.Seq.{take-length}
+use Rattle.std.proofs.lemmas.List.Sums.{sum_by_more}
 use Rattle.std.proofs.lemmas.Bool.Decides.{nat_tests}
 use Rattle.std.proofs.lemmas.Bool.{cases_eq}
 use Rattle.flood.specs.Sums.{sum}
@@ -26,3 +28,13 @@ sum_more g h (suc n) c a z e =
 pub sum_limit : (g : ℕ → ℕ) (n most : ℕ) → ((c : ℕ) → c < n → g c ≤ most) → sum g n ≤ n * most
 sum_limit g zero most e = omega arith
 sum_limit g (suc n) most e = let ih = sum_limit g n most in let here = e n in grind arith
+
+-- the sum over a list, by what stands at each place
+front_each : {X : Type 0} (f : X → ℕ) (g : ℕ → ℕ) (xs : List X) (d : X) → ((c : ℕ) → c < length xs → f (get_or xs c d) ≡ g c) → (n : ℕ) → n ≤ length xs →
+    sum_by f (take n xs) ≡ sum g n
+front_each f g xs d e zero a = refl
+front_each f g xs d e (suc n) a =
+    omega (arith, front_each f g xs d e n (omega arith), ap (λ k. sum_by f (take k xs)) (sym (add-one n)), sum_by_more f xs n d (omega arith), e n (omega arith))
+
+pub sum_each : {X : Type 0} (f : X → ℕ) (g : ℕ → ℕ) (xs : List X) (d : X) → ((c : ℕ) → c < length xs → f (get_or xs c d) ≡ g c) → sum_by f xs ≡ sum g (length xs)
+sum_each f g xs d e = ap (sum_by f) (sym (take-length xs)) ∙ front_each f g xs d e (length xs) (omega arith)

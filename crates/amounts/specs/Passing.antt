@@ -4,7 +4,14 @@ use Rattle.model.specs.Terrain.{land}
 use Rattle.flood.specs.Flooded.{table_of}
 use Rattle.flood.specs.Run.{none}
 use Rattle.flood.specs.Sums.{sum}
+use Rattle.flood.specs.declared.sends.Sends.{Sends}
+use Rattle.flood.specs.declared.sends.Sends.TheVariants.{Off, To}
 use Rattle.amounts.specs.Accumulation.{amounts_of}
+
+-- what is lost off the land of an amount that is sent there: all of it, or nothing
+abbrev pub left_by : Sends → ℕ → ℕ
+left_by Off amount = amount
+left_by (To _) amount = 0
 
 -- what leaves the land at cell c, by lists of flow and amounts: 0 where it does not send off, or is in none of them
 abbrev pub leaves_at : List ℕ → List ℕ → ℕ → ℕ

@@ -17,8 +17,8 @@ fn keep_levels(levels: &[u32], before: &mut [u64])
     requires { length before.old ≡ length levels.now }
     ensures { before.new ≡ levels.now }
 {
-    for c in 0..levels.len() {
-        before[c] = u64::from(levels[c]);
+    for (c, kept) in before.iter_mut().enumerate() {
+        *kept = u64::from(levels[c]);
     }
 }
 
@@ -28,13 +28,11 @@ fn count_changed(before: &[u64], levels: &[u32]) -> u32
     requires few { length levels.now ≤ 160000 }
     ensures { result ≡ levels_changed before.now levels.now (length levels.now) }
 {
-    let mut changed = 0;
-    for c in 0..levels.len() {
-        if before[c] != u64::from(levels[c]) {
-            changed += 1;
-        }
-    }
-    changed
+    before
+        .iter()
+        .zip(levels)
+        .filter(|(old, new)| **old != u64::from(**new))
+        .count() as u32
 }
 
 // Drains a model that was read, and counts the cells whose level is not the one that stood in the slice. The old levels are kept where

@@ -7,7 +7,7 @@ ghost use Rattle.flood.specs.Flooded.{table_of};
 ghost use Rattle.flood.specs.Run.{none};
 ghost use Rattle.amounts.specs.Accumulation.{passed_on, accumulated, rains};
 ghost use Rattle.amounts.specs.Amounts.{all_rain};
-ghost use Rattle.amounts.specs.Passing.{leaves_at, all_leaves, table_amounts};
+ghost use Rattle.amounts.specs.Passing.{left_by, leaves_at, all_leaves, table_amounts};
 
 use flood::sends::Sends;
 use model::land::Model;
@@ -34,17 +34,23 @@ fn pass_on(flow: &[u32], amounts: &mut [u64], cell: usize)
     }
 }
 
+// What a cell that sends there loses off the land, of its amount: all of it, or nothing.
+fn left_by(sends: Sends, amount: Amount) -> Amount
+    ensures { result.0 ≡ left_by sends amount.0 }
+{
+    match sends {
+        Sends::Off => amount,
+        Sends::To(_) => Amount(0),
+    }
+}
+
 // What leaves the land at a cell: its amount if it sends off, else 0; 0 where there is no such cell.
 pub fn leaves_at(flow: &[u32], amounts: &[u64], cell: Cell) -> Amount
     ensures { result.0 ≡ leaves_at flow.now amounts.now cell.0 }
 {
-    let at = cell.index();
-    if at >= flow.len() || at >= amounts.len() {
-        return Amount(0);
-    }
-    match Sends::of_code(flow[at]) {
-        Sends::Off => Amount(amounts[at]),
-        Sends::To(_) => Amount(0),
+    match (flow.get(cell.index()), amounts.get(cell.index())) {
+        (Some(code), Some(amount)) => left_by(Sends::of_code(*code), Amount(*amount)),
+        _ => Amount(0),
     }
 }
 
@@ -53,8 +59,8 @@ fn rain_all(model: &Model<'_>, amounts: &mut [u64])
     requires { length amounts.old ≡ count (bytes_of model.now) }
     ensures { amounts.new ≡ rains (land (bytes_of model.now)) }
 {
-    for c in 0..model.cells() {
-        amounts[c as usize] = rain_on(model, Cell(c)).0;
+    for (c, amount) in amounts.iter_mut().enumerate() {
+        *amount = rain_on(model, Cell(c as u32)).0;
     }
 }
 
@@ -62,24 +68,20 @@ fn rain_all(model: &Model<'_>, amounts: &mut [u64])
 pub(crate) fn rained(model: &Model<'_>) -> Amount
     ensures { result.0 ≡ all_rain (land (bytes_of model.now)) (count (bytes_of model.now)) }
 {
-    let mut rain = 0;
-    for c in 0..model.cells() {
-        rain += rain_on(model, Cell(c)).0;
-    }
-    Amount(rain)
+    Amount((0..model.cells()).map(|c| rain_on(model, Cell(c)).0).sum())
 }
 
 // All that leaves the land.
 pub(crate) fn leaving(flow: &[u32], amounts: &[u64]) -> Amount
-    requires few { length flow.now ≤ 160000 }
-    requires low { (c : ℕ) → slice_index amounts.now c ≤ 160000000000 }
+    requires long { length amounts.now ≡ length flow.now }
+    requires fits { all_leaves flow.now amounts.now (length flow.now) < 2 ^ 64 }
     ensures { result.0 ≡ all_leaves flow.now amounts.now (length flow.now) }
 {
-    let mut leaves = 0;
-    for c in 0..flow.len() {
-        leaves += leaves_at(flow, amounts, Cell(c as u32)).0;
-    }
-    Amount(leaves)
+    let each = flow.iter().zip(amounts);
+    Amount(
+        each.map(|(code, amount)| left_by(Sends::of_code(*code), Amount(*amount)).0)
+            .sum(),
+    )
 }
 
 // The amounts of all cells: each has its rain, and from the last place to the first each passes its amount on.
@@ -90,7 +92,7 @@ pub(crate) fn carry(model: &Model<'_>, flow: &[u32], order: &[u64], amounts: &mu
     ensures { amounts.new ≡ table_amounts (bytes_of model.now) }
 {
     rain_all(model, amounts);
-    for place in (0..order.len()).rev() {
-        pass_on(flow, amounts, order[place] as usize);
+    for cell in order.iter().rev() {
+        pass_on(flow, amounts, *cell as usize);
     }
 }

@@ -4,7 +4,7 @@ use Rattle.model.specs.Bytes.{count}
 use Rattle.model.proofs.Taken.{formed}
 use Rattle.flood.proofs.Turns.{small, table_long}
 use Rattle.amounts.specs.Passing.{all_leaves}
-use Rattle.amounts.proofs.Promised.{amounts_front, amounts_low, all_leave}
+use Rattle.amounts.proofs.Promised.{long_amounts, amounts_front, all_leave, leaves_low}
 use Rattle.amounts.proofs.draining.pour.Goals as goal
 
 pub carry-requires : goal.carry-requires
@@ -28,8 +28,8 @@ leaving-requires c =
     let flow = ap (λ k. take k c.args.flow.now) front ∙ c.requires.flow in
     let amounts = amounts_front bs wf c.args.amounts.now c.carry.new.amounts (c.cells-n.result - 0) front c.carry.ensures in
     record {
-      few = omega (arith, ap length flow, (table_long bs wf).flow, small bs wf);
-      low = subst (λ xs. (k : ℕ) → get_or xs k 0 ≤ 160000000000) (sym amounts) (amounts_low bs wf);
+      long = ap length amounts ∙ (long_amounts bs wf ∙ sym (ap length flow ∙ (table_long bs wf).flow));
+      fits = omega (arith, ap₂ (λ x y. all_leaves x y (length x)) flow amounts, leaves_low bs wf);
     }
 
 pub returns : goal.returns

@@ -1,19 +1,24 @@
-use Rattle.std.proofs.Common.{arith}
-use Rattle.model.specs.Terrain.{land}
+use Rattle.std.proofs.Common.{rules, ◌≡◌, ◌^◌, ◌∙◌, sum_by, arith, tests, ap}
+use Rattle.std.specs.List.{range_with_len}
+use Rattle.std.proofs.lemmas.Iterator.{YieldsList-from_range, YieldsList-from_map}
+use Rattle.std.proofs.lemmas.Iterator.Consumers.{sum_by_from_yields_List, fits_by_from_yields_list}
 use Rattle.model.proofs.Taken.{formed}
-use Rattle.flood.proofs.Turns.{small}
-use Rattle.amounts.proofs.Rains.{rain_is, sum_more}
+use Rattle.amounts.proofs.Passes.{rain_low}
+use Rattle.amounts.proofs.Rains.{read_rain, rain_summed}
 use Rattle.amounts.proofs.passing.rained.Goals as goal
 
-pub overflow_add-rain : goal.overflow_add-rain
-overflow_add-rain c =
+pub sum-requires-clause-fits : goal.sum-requires-clause-fits
+sum-requires-clause-fits c =
     let bs = c.args.model.now.bytes.now in
-    let wf = formed bs c.args.model.now.taken in
-    let r = rain_is bs wf c.loop-c.c c.rain_on-rain.result.0 (omega arith) c.rain_on-rain.ensures in
-    omega (arith, r.1, c.loop-c.invariant.1, small bs wf)
+    let cells = range_with_len 0 c.cells.result in
+    let low = rain_low bs (formed bs c.args.model.now.taken) in
+    let all = rain_summed bs in
+    let same = ap (λ n. sum_by (read_rain bs) (range_with_len 0 n)) c.cells.ensures in
+    fits_by_from_yields_list (read_rain bs) cells c.map.result (2 ^ 64) (YieldsList-from_map _ (read_rain bs) (YieldsList-from_range 0 c.cells.result _ c.map.ensures.source (omega arith)) c.map.ensures.closure (λ x r q k. search (rules, tests))) (omega (arith, same, all, low))
 
-pub loop-c-preserved : goal.loop-c-preserved
-loop-c-preserved c =
+pub returns : goal.returns
+returns c =
     let bs = c.args.model.now.bytes.now in
-    let r = rain_is bs (formed bs c.args.model.now.taken) c.loop-c.c c.rain_on-rain.result.0 (omega arith) c.rain_on-rain.ensures in
-    (sum_more (land bs).rain c.loop-c.c c.loop-c.rain c.rain_on-rain.result.0 c.loop-c.invariant.0 r.0, omega (arith, r.1, c.loop-c.invariant.1))
+    let cells = range_with_len 0 c.cells.result in
+    let same = ap (λ n. sum_by (read_rain bs) (range_with_len 0 n)) c.cells.ensures in
+    sum_by_from_yields_List (read_rain bs) cells c.map.result _ c.sum.ensures.ran (YieldsList-from_map _ (read_rain bs) (YieldsList-from_range 0 c.cells.result _ c.map.ensures.source (omega arith)) c.map.ensures.closure (λ x r q k. search (rules, tests))) ∙ (same ∙ rain_summed bs)
