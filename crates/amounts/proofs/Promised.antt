@@ -5,6 +5,7 @@ use Rattle.std.proofs.lemmas.List.{take_at, drop_at}
 use Rattle.std.proofs.lemmas.Bool.Decides.{nat_tests}
 use Rattle.model.specs.declared.refusal.Refusal.{Refusal}
 use Rattle.model.specs.Bytes.{count}
+use Rattle.model.specs.Slices.{Contents}
 use Rattle.model.specs.Terrain.{land}
 use Rattle.model.specs.WellFormed.{WellFormed}
 use Rattle.flood.specs.Flooded.{too_short, table_of, Written, Flooded}
@@ -21,18 +22,18 @@ use Rattle.amounts.proofs.Carrying.{only_amounts, nothing_lost}
 use Rattle.amounts.proofs.Passes.{ordered, rain_low}
 
 -- slices that are long enough
-pub record Room (n : ℕ) (ls fl am wk : List ℕ) : Type 0 where
-  pub of_levels : n ≤ length ls
-  pub of_flow : n ≤ length fl
-  pub of_amounts : n ≤ length am
-  pub of_work : 3 * n ≤ length wk
+pub record Room (n : ℕ) (s : Contents) : Type 0 where
+  pub of_levels : n ≤ length s.levels
+  pub of_flow : n ≤ length s.flow
+  pub of_amounts : n ≤ length s.amounts
+  pub of_work : 3 * n ≤ length s.work
 
-pub room_for : (n : ℕ) (ls fl am wk : List ℕ) → None ≡ room_fault n ls fl am wk → Room n ls fl am wk
-room_for n ls fl am wk e = record { of_levels = grind (arith, nat_tests); of_flow = grind (arith, nat_tests); of_amounts = grind (arith, nat_tests); of_work = grind (arith, nat_tests) }
+pub room_for : (n : ℕ) (s : Contents) → None ≡ room_fault n s → Room n s
+room_for n s e = record { of_levels = grind (arith, nat_tests); of_flow = grind (arith, nat_tests); of_amounts = grind (arith, nat_tests); of_work = grind (arith, nat_tests) }
 
 -- the flood refuses none of them
-pub not_short : (n k : ℕ) (ls fl am wk : List ℕ) (e : Refusal) → k ≡ n → Room k ls fl am wk → Some e ≡ too_short n ls fl wk → ⊥
-not_short n k ls fl am wk e same r short = grind (arith, nat_tests, r.of_levels, r.of_flow, r.of_work)
+pub not_short : (n k : ℕ) (s : Contents) (e : Refusal) → k ≡ n → Room k s → Some e ≡ too_short n s.levels s.flow s.work → ⊥
+not_short n k s e same r short = grind (arith, nat_tests, r.of_levels, r.of_flow, r.of_work)
 
 module _ (bs : List ℕ) (wf : WellFormed bs) where
   pub long_amounts : length (table_amounts bs) ≡ count bs
@@ -72,9 +73,9 @@ module _ (bs : List ℕ) (wf : WellFormed bs) where
         ap (λ x. take n (drop n x)) w.work ∙ (ap (take n) (drop_at s.queue _ n (table_long bs wf).queue) ∙ take_at s.order _ n (table_long bs wf).order),
       )
 
-  pub promised : (ls fl am wk ls' fl' am' wk' : List ℕ) (d : Drained) (looks : ℕ) → Flooded bs ls fl wk ls' fl' wk' looks → d.looks ≡ looks → am' ≡ table_amounts bs ++ drop (count bs) am →
-      d.rain.0 ≡ all_rain (land bs) (count bs) → d.leaves.0 ≡ all_off (flow_in bs) (amount_in bs) (count bs) → Promise bs ls fl am wk ls' fl' am' wk' d
-  promised ls fl am wk ls' fl' am' wk' d looks f k a r l = record {
+  pub promised : (old new : Contents) (d : Drained) (looks : ℕ) → Flooded bs old.levels old.flow old.work new.levels new.flow new.work looks → d.looks ≡ looks →
+      new.amounts ≡ table_amounts bs ++ drop (count bs) old.amounts → d.rain.0 ≡ all_rain (land bs) (count bs) → d.leaves.0 ≡ all_off (flow_in bs) (amount_in bs) (count bs) → Promise bs old new d
+  promised old new d looks f k a r l = record {
     written = f.written;
     poured = a;
     looks = k ∙ f.counted;

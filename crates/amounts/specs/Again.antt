@@ -1,6 +1,7 @@
 -- Draining again into slices that hold levels already.
 use Rattle.std.specs.Prelude.{◌≡◌, ℕ, cond, List, ◌==◌, slice_index}
 use Rattle.model.specs.Bytes.{count}
+use Rattle.model.specs.Slices.{Contents}
 use Rattle.flood.specs.Sums.{sum}
 use Rattle.amounts.specs.declared.answer.DrainedAgain.{DrainedAgain}
 use Rattle.amounts.specs.Promise.{Promise}
@@ -14,6 +15,6 @@ abbrev pub levels_changed : (before after : List ℕ) → ℕ → ℕ
 levels_changed before after n = sum (differs before after) n
 
 -- DRAINED AGAIN: all that draining promises, and the number of the cells whose level is not what stood in the slice
-pub record Again (bs levels flow amounts work levels' flow' amounts' work' : List ℕ) (a : DrainedAgain) : Type 0 where
-  pub promise : Promise bs levels flow amounts work levels' flow' amounts' work' a.drained
-  pub changed : a.changed ≡ levels_changed levels levels' (count bs)
+pub record Again (bs : List ℕ) (old new : Contents) (a : DrainedAgain) : Type 0 where
+  pub promise : Promise bs old new a.drained
+  pub changed : a.changed ≡ levels_changed old.levels new.levels (count bs)

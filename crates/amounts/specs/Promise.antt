@@ -1,6 +1,7 @@
 -- What draining promises of the land of the bytes that it was given.
 use Rattle.std.specs.Prelude.{◌≡◌, ℕ, ◌+◌, ◌*◌, ◌<◌, ◌≤◌, List, ◌++◌, drop, slice_index}
 use Rattle.model.specs.Bytes.{count}
+use Rattle.model.specs.Slices.{Contents}
 use Rattle.model.specs.Terrain.{land}
 use Rattle.flood.specs.Flooded.{table_of, Written}
 use Rattle.flood.specs.Levels.{Flow}
@@ -26,10 +27,10 @@ abbrev pub table_bytes : List ℕ → List ℕ
 table_bytes bs = joined (table_row bs) (count bs)
 
 -- THE MAIN PROMISE
-pub record Promise (bs levels flow amounts work levels' flow' amounts' work' : List ℕ) (d : Drained) : Type 0 where
+pub record Promise (bs : List ℕ) (old new : Contents) (d : Drained) : Type 0 where
   -- the slices hold exactly what the rule gives, and are as they were behind it; looks are the rule's, and few
-  pub written : Written (table_of bs) (count bs) levels flow work levels' flow' work'
-  pub poured : amounts' ≡ table_amounts bs ++ drop (count bs) amounts
+  pub written : Written (table_of bs) (count bs) old.levels old.flow old.work new.levels new.flow new.work
+  pub poured : new.amounts ≡ table_amounts bs ++ drop (count bs) old.amounts
   pub looks : d.looks ≡ (table_of bs).looks
   pub few : d.looks ≤ 2000000 + 5 * 21 * count bs
   -- levels are the lowest, water goes to earlier places and no higher level, off only where it can, and never comes back

@@ -3,6 +3,7 @@ ghost use Rattle.std.specs.Prelude.{◌≡◌, ◌≤◌, length, MatchResult};
 ghost use Rattle.std.specs.Result.{result_err};
 ghost use Rattle.model.specs.Bytes.{count};
 ghost use Rattle.model.specs.OfModel.{bytes_of};
+ghost use Rattle.model.specs.Slices.{contents, SameSlices};
 ghost use Rattle.amounts.specs.Again.{levels_changed, Again};
 ghost use Rattle.amounts.specs.Draining.{room_fault, Unchanged};
 
@@ -11,6 +12,7 @@ use crate::draining::{check_room, pour};
 use flood::flooding::flood;
 use model::land::Model;
 use model::refusal::Refusal;
+use model::slices::Slices;
 
 // Copies levels to where they stay while new ones are found.
 fn keep_levels(levels: &[u32], before: &mut [u64])
@@ -24,9 +26,9 @@ fn keep_levels(levels: &[u32], before: &mut [u64])
 
 // How many cells have another level than before.
 fn count_changed(before: &[u64], levels: &[u32]) -> u32
-    requires long { length before.now ≡ length levels.now }
-    requires few { length levels.now ≤ 160000 }
-    ensures { result ≡ levels_changed before.now levels.now (length levels.now) }
+    requires long { length before.now ≤ length levels.now }
+    requires few { length before.now ≤ 160000 }
+    ensures { result ≡ levels_changed before.now levels.now (length before.now) }
 {
     before
         .iter()
@@ -37,21 +39,20 @@ fn count_changed(before: &[u64], levels: &[u32]) -> u32
 
 // Drains a model that was read, and counts the cells whose level is not the one that stood in the slice. The old levels are kept where
 // the amounts will stand. A slice that is too short is refused, and nothing is written then.
-pub fn drain_again(
-    model: &Model<'_>,
-    levels: &mut [u32],
-    flow: &mut [u32],
-    amounts: &mut [u64],
-    work: &mut [u64],
-) -> Result<DrainedAgain, Refusal>
-    ensures refused { result_err result ≡ room_fault (count (bytes_of model.now)) levels.old flow.old amounts.old work.old }
-    ensures after { MatchResult result (λ a. Again (bytes_of model.now) levels.old flow.old amounts.old work.old levels.new flow.new amounts.new work.new a) (λ _. Unchanged levels.old flow.old amounts.old work.old levels.new flow.new amounts.new work.new) }
+pub fn drain_again(model: &Model<'_>, slices: &mut Slices<'_>) -> Result<DrainedAgain, Refusal>
+    ensures refused { result_err result ≡ room_fault (count (bytes_of model.now)) (contents slices.old) }
+    ensures after { MatchResult result (λ a. Again (bytes_of model.now) (contents slices.old) (contents slices.new) a) (λ _. Unchanged (contents slices.old) (contents slices.new)) }
+    ensures same { SameSlices slices.old slices.new }
 {
     let n = model.cells() as usize;
-    check_room(n, levels, flow, amounts, work)?;
+    check_room(n, slices)?;
+    let levels = &mut *slices.levels;
+    let flow = &mut *slices.flow;
+    let amounts = &mut *slices.amounts;
+    let work = &mut *slices.work;
     keep_levels(&levels[0..n], &mut amounts[0..n]);
     let looks = flood(model, levels, flow, work)?;
-    let changed = count_changed(&amounts[0..n], &levels[0..n]);
+    let changed = count_changed(&amounts[0..n], levels);
     let drained = pour(model, looks, flow, amounts, work);
     Ok(DrainedAgain { drained, changed })
 }

@@ -3,6 +3,7 @@ ghost use Rattle.std.specs.Prelude.{◌≡◌, ◌*◌, ◌≤◌, ◌++◌, len
 ghost use Rattle.std.specs.Result.{result_err};
 ghost use Rattle.model.specs.Bytes.{count};
 ghost use Rattle.model.specs.OfModel.{bytes_of};
+ghost use Rattle.model.specs.Slices.{contents, SameSlices};
 ghost use Rattle.model.specs.Terrain.{land};
 ghost use Rattle.flood.specs.Flooded.{table_of};
 ghost use Rattle.amounts.specs.Amounts.{all_rain, all_off};
@@ -16,31 +17,17 @@ use flood::flooding::flood;
 use model::land::Model;
 use model::reading::read;
 use model::refusal::{Lent, Refusal};
+use model::slices::{Slices, long_enough};
 
 // The first of the four slices that is too short for n cells.
-pub(crate) fn check_room(
-    n: usize,
-    levels: &[u32],
-    flow: &[u32],
-    amounts: &[u64],
-    work: &[u64],
-) -> Result<(), Refusal>
+pub(crate) fn check_room(n: usize, slices: &Slices<'_>) -> Result<(), Refusal>
     requires { n ≤ 160000 }
-    ensures { result_err result ≡ room_fault n levels.now flow.now amounts.now work.now }
+    ensures { result_err result ≡ room_fault n (contents slices.now) }
 {
-    if levels.len() < n {
-        return Err(Refusal::Short(Lent::Levels));
-    }
-    if flow.len() < n {
-        return Err(Refusal::Short(Lent::Flow));
-    }
-    if amounts.len() < n {
-        return Err(Refusal::Short(Lent::Amounts));
-    }
-    if work.len() < 3 * n {
-        return Err(Refusal::Short(Lent::Work));
-    }
-    Ok(())
+    long_enough(slices.levels, n, Refusal::Short(Lent::Levels))?;
+    long_enough(slices.flow, n, Refusal::Short(Lent::Flow))?;
+    long_enough(slices.amounts, n, Refusal::Short(Lent::Amounts))?;
+    long_enough(slices.work, 3 * n, Refusal::Short(Lent::Work))
 }
 
 // The amounts of a model whose levels and flow were found with so many looks, and all that is answered of it.
@@ -69,34 +56,25 @@ pub(crate) fn pour(
 }
 
 // Drains a model that was read. A slice that is too short is refused, and nothing is written then.
-pub fn drain_model(
-    model: &Model<'_>,
-    levels: &mut [u32],
-    flow: &mut [u32],
-    amounts: &mut [u64],
-    work: &mut [u64],
-) -> Result<Drained, Refusal>
-    ensures refused { result_err result ≡ room_fault (count (bytes_of model.now)) levels.old flow.old amounts.old work.old }
-    ensures after { MatchResult result (λ d. Promise (bytes_of model.now) levels.old flow.old amounts.old work.old levels.new flow.new amounts.new work.new d) (λ _. Unchanged levels.old flow.old amounts.old work.old levels.new flow.new amounts.new work.new) }
+pub fn drain_model(model: &Model<'_>, slices: &mut Slices<'_>) -> Result<Drained, Refusal>
+    ensures refused { result_err result ≡ room_fault (count (bytes_of model.now)) (contents slices.old) }
+    ensures after { MatchResult result (λ d. Promise (bytes_of model.now) (contents slices.old) (contents slices.new) d) (λ _. Unchanged (contents slices.old) (contents slices.new)) }
+    ensures same { SameSlices slices.old slices.new }
 {
-    let n = model.cells() as usize;
-    check_room(n, levels, flow, amounts, work)?;
-    let looks = flood(model, levels, flow, work)?;
+    check_room(model.cells() as usize, slices)?;
+    let looks = flood(model, slices.levels, slices.flow, slices.work)?;
+    let flow = &mut *slices.flow;
+    let amounts = &mut *slices.amounts;
+    let work = &mut *slices.work;
     Ok(pour(model, looks, flow, amounts, work))
 }
 
 // Drains the model in the bytes of a file. The first fault of the bytes is refused, then the first slice that is too short; nothing is
 // written then.
-pub fn drain(
-    bytes: &[u8],
-    levels: &mut [u32],
-    flow: &mut [u32],
-    amounts: &mut [u64],
-    work: &mut [u64],
-) -> Result<Drained, Refusal>
-    ensures refused { result_err result ≡ drain_fault bytes.now levels.old flow.old amounts.old work.old }
-    ensures after { MatchResult result (λ d. Promise bytes.now levels.old flow.old amounts.old work.old levels.new flow.new amounts.new work.new d) (λ _. Unchanged levels.old flow.old amounts.old work.old levels.new flow.new amounts.new work.new) }
+pub fn drain(bytes: &[u8], slices: &mut Slices<'_>) -> Result<Drained, Refusal>
+    ensures refused { result_err result ≡ drain_fault bytes.now (contents slices.old) }
+    ensures after { MatchResult result (λ d. Promise bytes.now (contents slices.old) (contents slices.new) d) (λ _. Unchanged (contents slices.old) (contents slices.new)) }
+    ensures same { SameSlices slices.old slices.new }
 {
-    let grid = read(bytes)?;
-    drain_model(&Model::new(grid, bytes), levels, flow, amounts, work)
+    drain_model(&read(bytes)?, slices)
 }

@@ -13,23 +13,13 @@ use flood::sends::Sends;
 use model::land::Model;
 use model::units::{Amount, Cell};
 
-// The rain on a cell, 0 where there is no such cell.
-fn rain_on(model: &Model<'_>, cell: Cell) -> Amount
-    ensures { result.0 ≡ (if nat_lt cell.0 (count (bytes_of model.now)) then (land (bytes_of model.now)).rain cell.0 else 0) }
-{
-    match model.rain(cell) {
-        Some(rain) => rain,
-        None => Amount(0),
-    }
-}
-
 // A cell adds its amount to that of the cell that it sends to.
 fn pass_on(flow: &[u32], amounts: &mut [u64], cell: usize)
     requires cell { (cell < length flow.now) × (cell < length amounts.old) }
     requires sum { (slice_index flow.now cell == none) ≡ false → (slice_index flow.now cell < length amounts.old) × (slice_index amounts.old (slice_index flow.now cell) + slice_index amounts.old cell < 2 ^ 64) }
     ensures { amounts.new ≡ passed_on flow.now cell amounts.old }
 {
-    if let Sends::To(next) = Sends::of_code(flow[cell]) {
+    if let Sends::To(next) = Sends::from(flow[cell]) {
         amounts[next.index()] += amounts[cell];
     }
 }
@@ -49,7 +39,7 @@ pub fn leaves_at(flow: &[u32], amounts: &[u64], cell: Cell) -> Amount
     ensures { result.0 ≡ leaves_at flow.now amounts.now cell.0 }
 {
     match (flow.get(cell.index()), amounts.get(cell.index())) {
-        (Some(code), Some(amount)) => left_by(Sends::of_code(*code), Amount(*amount)),
+        (Some(code), Some(amount)) => left_by(Sends::from(*code), Amount(*amount)),
         _ => Amount(0),
     }
 }
@@ -60,7 +50,7 @@ fn rain_all(model: &Model<'_>, amounts: &mut [u64])
     ensures { amounts.new ≡ rains (land (bytes_of model.now)) }
 {
     for (c, amount) in amounts.iter_mut().enumerate() {
-        *amount = rain_on(model, Cell(c as u32)).0;
+        *amount = model.rain_of(Cell(c as u32)).0;
     }
 }
 
@@ -68,7 +58,7 @@ fn rain_all(model: &Model<'_>, amounts: &mut [u64])
 pub(crate) fn rained(model: &Model<'_>) -> Amount
     ensures { result.0 ≡ all_rain (land (bytes_of model.now)) (count (bytes_of model.now)) }
 {
-    Amount((0..model.cells()).map(|c| rain_on(model, Cell(c)).0).sum())
+    Amount((0..model.cells()).map(|c| model.rain_of(Cell(c)).0).sum())
 }
 
 // All that leaves the land.
@@ -79,7 +69,7 @@ pub(crate) fn leaving(flow: &[u32], amounts: &[u64]) -> Amount
 {
     let each = flow.iter().zip(amounts);
     Amount(
-        each.map(|(code, amount)| left_by(Sends::of_code(*code), Amount(*amount)).0)
+        each.map(|(code, amount)| left_by(Sends::from(*code), Amount(*amount)).0)
             .sum(),
     )
 }

@@ -32,7 +32,7 @@ impl Row {
     {
         let mut bytes = [0; 20];
         bytes[..SENDS_AT].copy_from_slice(&self.level.0.to_le_bytes());
-        bytes[SENDS_AT..PLACE_AT].copy_from_slice(&self.sends.code().to_le_bytes());
+        bytes[SENDS_AT..PLACE_AT].copy_from_slice(&u32::from(self.sends).to_le_bytes());
         bytes[PLACE_AT..AMOUNT_AT].copy_from_slice(&self.place.to_le_bytes());
         bytes[AMOUNT_AT..].copy_from_slice(&self.amount.0.to_le_bytes());
         bytes
@@ -95,7 +95,7 @@ pub fn read_row(table: &[u8], cell: Cell) -> Option<Row>
     let part = &table[start..start + ROW_BYTES];
     Some(Row {
         level: Height(read_four(part, 0)),
-        sends: Sends::of_code(read_four(part, SENDS_AT)),
+        sends: Sends::from(read_four(part, SENDS_AT)),
         place: read_four(part, PLACE_AT),
         amount: Amount(read_eight(part, AMOUNT_AT)),
     })

@@ -6,6 +6,7 @@ use model::edits::{write_drain, write_height, write_rain};
 use model::grid::Grid;
 use model::reading::read;
 use model::refusal::{Lent, Refusal};
+use model::slices::Slices;
 use model::units::{Amount, Cell, Height};
 use std::process::Abort;
 use std::test::Fail;
@@ -19,12 +20,12 @@ fn raise(
     drain: Option<u32>,
 ) -> Result<(), Fail> {
     for c in 0..9u32 {
-        assert!(rt; write_height(grid, bytes, Cell(c), Height(heights[c as usize])));
-        assert!(rt; write_rain(grid, bytes, Cell(c), Amount(1)));
+        assert!(rt; write_height(grid, bytes, Cell(c), Height(heights[c as usize])).is_ok());
+        assert!(rt; write_rain(grid, bytes, Cell(c), Amount(1)).is_ok());
     }
     match drain {
         Some(c) => {
-            assert!(rt; write_drain(grid, bytes, Cell(c), true));
+            assert!(rt; write_drain(grid, bytes, Cell(c), true).is_ok());
             Ok(())
         },
         None => Ok(()),
@@ -43,19 +44,22 @@ fn expect(
     let mut bytes = [0u8; 85];
     bytes[0] = 3;
     bytes[2] = 3;
-    let grid = match read(&bytes) {
-        Ok(grid) => grid,
-        Err(_) => return Err(Fail::new("the model is refused")),
-    };
+    let grid = read(&bytes)
+        .map_err(|_| Fail::new("the model is refused"))?
+        .grid();
     raise(rt, &mut bytes, grid, heights, drain_at)?;
     let mut levels = [0u32; 9];
     let mut flow = [0u32; 9];
     let mut amounts = [0u64; 9];
     let mut work = [0u64; 27];
-    match drain(&bytes, &mut levels, &mut flow, &mut amounts, &mut work) {
-        Ok(answer) => assert!(rt; answer.rain.0 == 9 && answer.leaves.0 == 9),
-        Err(_) => return Err(Fail::new("the model is refused")),
-    }
+    let mut slices = Slices {
+        levels: &mut levels,
+        flow: &mut flow,
+        amounts: &mut amounts,
+        work: &mut work,
+    };
+    let answer = drain(&bytes, &mut slices).map_err(|_| Fail::new("the model is refused"))?;
+    assert!(rt; answer.rain.0 == 9 && answer.leaves.0 == 9);
     assert!(rt; levels == levels_are);
     assert!(rt; flow == flow_is);
     assert!(rt; amounts == amounts_are);
@@ -106,39 +110,42 @@ fn refuses_and_keeps(rt: HostRuntime) {
     let mut flow = [8u32];
     let mut amounts = [8u64];
     let mut work = [8u64, 8, 8];
+    let mut slices = Slices {
+        levels: &mut levels[0..0],
+        flow: &mut flow,
+        amounts: &mut amounts,
+        work: &mut work,
+    };
+    assert_eq!(rt; drain(&cell[0..12], &mut slices), Err(Refusal::Length(12)));
+    let mut slices = Slices {
+        levels: &mut levels,
+        flow: &mut flow,
+        amounts: &mut amounts[0..0],
+        work: &mut work[0..0],
+    };
     assert_eq!(rt;
-        drain(
-            &cell[0..12],
-            &mut levels[0..0],
-            &mut flow,
-            &mut amounts,
-            &mut work,
-        ),
-        Err(Refusal::Length(12))
-    );
-    assert_eq!(rt;
-        drain(
-            &cell,
-            &mut levels,
-            &mut flow,
-            &mut amounts[0..0],
-            &mut work[0..0],
-        ),
+        drain(&cell, &mut slices),
         Err(Refusal::Short(Lent::Amounts))
     );
-    assert_eq!(rt;
-        drain(&cell, &mut levels, &mut flow, &mut amounts, &mut work[0..2]),
-        Err(Refusal::Short(Lent::Work))
-    );
+    let mut slices = Slices {
+        levels: &mut levels,
+        flow: &mut flow,
+        amounts: &mut amounts,
+        work: &mut work[0..2],
+    };
+    assert_eq!(rt; drain(&cell, &mut slices), Err(Refusal::Short(Lent::Work)));
     assert!(rt; levels == [8] && flow == [8] && amounts == [8] && work == [8, 8, 8]);
     let answer = Drained {
         looks: 0,
         rain: Amount(7),
         leaves: Amount(7),
     };
-    assert_eq!(rt;
-        drain(&cell, &mut levels, &mut flow, &mut amounts, &mut work),
-        Ok(answer)
-    );
+    let mut slices = Slices {
+        levels: &mut levels,
+        flow: &mut flow,
+        amounts: &mut amounts,
+        work: &mut work,
+    };
+    assert_eq!(rt; drain(&cell, &mut slices), Ok(answer));
     assert!(rt; levels == [4] && flow == [OFF] && amounts == [7]);
 }

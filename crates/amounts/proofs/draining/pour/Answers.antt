@@ -1,8 +1,8 @@
 -- The flood's lists are handed on, and what is answered is what they add up to.
-use Rattle.std.proofs.Common.{◌≡◌, ℕ, ◌-◌, ◌*◌, ◌≤◌, ◌++◌, length, get_or, take, drop, sym, refl, ap, ◌∙◌, subst, ap₂, arith, length-take}
+use Rattle.std.proofs.Common.{◌≡◌, ◌-◌, ◌*◌, ◌++◌, length, take, drop, sym, refl, ap, ◌∙◌, ap₂, arith, length-take}
 use Rattle.model.specs.Bytes.{count}
 use Rattle.model.proofs.Taken.{formed}
-use Rattle.flood.proofs.Turns.{small, table_long}
+use Rattle.flood.proofs.Turns.{table_long}
 use Rattle.amounts.specs.Passing.{all_leaves}
 use Rattle.amounts.proofs.Promised.{long_amounts, amounts_front, all_leave, leaves_low}
 use Rattle.amounts.proofs.draining.pour.Goals as goal

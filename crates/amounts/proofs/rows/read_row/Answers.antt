@@ -10,6 +10,6 @@ returns c =
     let t = c.args.table.now in
     let n = c.args.cell.0 in
     let part = row_from t c.row_start-start.result n c.row_start-start.ensures in
-    let sent = c.of_code.ensures.value ∙ ap sends_of c.read_four-2.ensures in
+    let sent = c.from.ensures.0 ∙ ap sends_of c.read_four-2.ensures in
     let whole = cond-true (has_row t n) _ _ (le-leb (row_start n + row_size) (length t) (omega arith)) in
     sym (whole ∙ cc)
