@@ -1,5 +1,5 @@
 -- A binary heap of words in the front of a list: its order, its content, and where an entry comes to stand after how many looks.
-use Rattle.std.specs.Prelude.{◌≡◌, ℕ, zero, suc, ◌+◌, ◌-◌, ◌*◌, ◌/◌, ◌%◌, ◌<◌, ◌≤◌, cond, List, take, sum_by, nat_lt, slice_index, slice_index_or, slice_set}
+use Rattle.std.specs.Prelude.{◌≡◌, ℕ, zero, suc, ◌+◌, ◌-◌, ◌*◌, ◌/◌, ◌%◌, ◌<◌, ◌≤◌, if◌then◌else◌, List, take, sum_by, nat_lt, slice_index, slice_index_or, slice_set}
 
 -- an entry as one word: the level in its high half, the cell's number in its low half
 abbrev pub word : ℕ → ℕ → ℕ
@@ -48,11 +48,16 @@ unfoldable pub rise : ℕ → List ℕ → ℕ → ℕ → ℕ → Sifted
 rise zero xs i x k = placed xs i x k
 rise (suc f) xs i x k =
     let above = slice_index_or xs (parent_of i) 0 in
-    cond (nat_lt 0 i) (cond (nat_lt x above) (rise f (slice_set xs i above) (parent_of i) x (k + 1)) (placed xs i x (k + 1))) (placed xs i x k)
+    if nat_lt 0 i
+    then (if nat_lt x above then rise f (slice_set xs i above) (parent_of i) x (k + 1) else placed xs i x (k + 1))
+    else placed xs i x k
 
 -- the place of the lesser child of place i among the first n, the left one of equals
 abbrev pub lesser : List ℕ → ℕ → ℕ → ℕ
-lesser xs n i = cond (nat_lt (2 * i + 2) n) (cond (nat_lt (slice_index xs (2 * i + 2)) (slice_index xs (2 * i + 1))) (2 * i + 2) (2 * i + 1)) (2 * i + 1)
+lesser xs n i =
+    let left = 2 * i + 1 in
+    let right = 2 * i + 2 in
+    if nat_lt right n then (if nat_lt (slice_index xs right) (slice_index xs left) then right else left) else left
 
 -- place i is free and x goes down from there among the first n, past each lesser child that is less; k and f as above
 unfoldable pub sink : ℕ → List ℕ → ℕ → ℕ → ℕ → ℕ → Sifted
@@ -60,7 +65,9 @@ sink zero xs n i x k = placed xs i x k
 sink (suc f) xs n i x k =
     let child = lesser xs n i in
     let below = slice_index_or xs child 0 in
-    cond (nat_lt (2 * i + 1) n) (cond (nat_lt below x) (sink f (slice_set xs i below) n child x (k + 1)) (placed xs i x (k + 1))) (placed xs i x k)
+    if nat_lt (2 * i + 1) n
+    then (if nat_lt below x then sink f (slice_set xs i below) n child x (k + 1) else placed xs i x (k + 1))
+    else placed xs i x k
 
 -- a push of x to n entries: x goes up from place n; n looks always suffice
 abbrev pub pushed : List ℕ → ℕ → ℕ → Sifted

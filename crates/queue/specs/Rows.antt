@@ -1,5 +1,5 @@
 -- Rows of pushes and pops, and what is promised of each row.
-use Rattle.std.specs.Prelude.{◌≡◌, ℕ, zero, suc, ◌+◌, ◌-◌, ◌<◌, ◌≤◌, cond, ◌&&◌, List, [], ◌∷◌, length, take, sum_by, nat_le, nat_lt, slice_index}
+use Rattle.std.specs.Prelude.{◌≡◌, ℕ, zero, suc, ◌+◌, ◌-◌, ◌<◌, ◌≤◌, if◌then◌else◌, ◌&&◌, List, [], ◌∷◌, length, take, sum_by, nat_le, nat_lt, slice_index}
 use Rattle.queue.specs.Heap.{Heap, pushed, popped}
 
 -- the list after pushes of all words of a list to its first n
@@ -40,13 +40,13 @@ pub record Row : Type 0 where
 -- one operation more; a push to a full list, and a pop of nothing, change nothing
 unfoldable pub operated : Row → Operation → Row
 operated r (Push x) =
-    cond (nat_lt r.count (length r.entries))
-    (record { entries = (pushed r.entries r.count x).entries; count = r.count + 1; taken = x ∷ r.taken; given = r.given })
-    r
+    if nat_lt r.count (length r.entries)
+    then record { entries = (pushed r.entries r.count x).entries; count = r.count + 1; taken = x ∷ r.taken; given = r.given }
+    else r
 operated r Pop =
-    cond (nat_lt 0 r.count && nat_le r.count (length r.entries))
-    (record { entries = (popped r.entries r.count).entries; count = r.count - 1; taken = r.taken; given = slice_index r.entries 0 ∷ r.given })
-    r
+    if nat_lt 0 r.count && nat_le r.count (length r.entries)
+    then record { entries = (popped r.entries r.count).entries; count = r.count - 1; taken = r.taken; given = slice_index r.entries 0 ∷ r.given }
+    else r
 
 abbrev pub operated_all : Row → List Operation → Row
 operated_all r [] = r

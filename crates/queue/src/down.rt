@@ -2,39 +2,43 @@
 ghost use Rattle.std.specs.Prelude.{◌≡◌, ◌+◌, ◌*◌, ◌<◌, ◌≤◌, length};
 ghost use Rattle.queue.specs.Heap.{sifted, lesser, sink};
 
-use crate::coding::precedes;
+use crate::Queue;
 
-// The place of the lesser child of a place that has a child among the first `len`.
-fn lesser_child(heap: &[u64], len: usize, place: usize) -> usize
-    requires { (2 * place + 1 < len) × (len ≤ length heap.now) }
-    ensures { result ≡ lesser heap.now len place }
-{
-    let left = 2 * place + 1;
-    let right = left + 1;
-    if right < len && precedes(heap[right], heap[left]) {
-        right
-    } else {
-        left
-    }
-}
-
-// Puts `coded` in at the free first place and lets it go down among the first `len`. Returns the number of lesser children looked at.
-pub(crate) fn sift_down(heap: &mut [u64], len: usize, coded: u64) -> u32
-    requires { (0 < length heap.old) × (len ≤ length heap.old) }
-    ensures { sifted heap.new result ≡ sink len heap.old len 0 coded 0 }
-{
-    let parents = len / 2;
-    let mut looks = 0;
-    let mut free = 0;
-    while free < parents {
-        let child = lesser_child(heap, len, free);
-        looks += 1;
-        if !precedes(heap[child], coded) {
-            break;
+impl Queue<'_> {
+    // The place of the lesser child of a place that has a child.
+    fn lesser_child(&self, place: usize) -> usize
+        requires { (2 * place + 1 < self.now.len) × (self.now.len ≤ length self.now.words.now) }
+        ensures { result ≡ lesser self.now.words.now self.now.len place }
+    {
+        let left = 2 * place + 1;
+        let right = left + 1;
+        if right < self.len && self.words[right] < self.words[left] {
+            right
+        } else {
+            left
         }
-        heap[free] = heap[child];
-        free = child;
     }
-    heap[free] = coded;
-    looks
+
+    // Puts `coded` in at the free first place and lets it go down. Returns the number of lesser children looked at.
+    pub(crate) fn sift_down(&mut self, coded: u64) -> u32
+        requires { (0 < length self.old.words.now) × (self.old.len ≤ length self.old.words.now) }
+        ensures same_reference { self.new.words.ghost_name ≡ self.old.words.ghost_name }
+        ensures words { sifted self.new.words.now result ≡ sink self.old.len self.old.words.now self.old.len 0 coded 0 }
+        ensures len { self.new.len ≡ self.old.len }
+    {
+        let parents = self.len / 2;
+        let mut looks = 0;
+        let mut free = 0;
+        while free < parents {
+            let child = self.lesser_child(free);
+            looks += 1;
+            if coded <= self.words[child] {
+                break;
+            }
+            self.words[free] = self.words[child];
+            free = child;
+        }
+        self.words[free] = coded;
+        looks
+    }
 }

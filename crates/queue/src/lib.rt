@@ -1,10 +1,10 @@
 // A binary heap of levels and cells in the front of a lent slice, one word an entry: the lowest comes out first.
 #![tactic(auto)]
 
-ghost use Rattle.std.specs.Prelude.{◌≡◌, ℕ, ◌+◌, ◌-◌, ◌^◌, ◌<◌, ◌≤◌, length, MatchOption};
+ghost use Rattle.std.specs.Prelude.{◌≡◌, ℕ, ◌+◌, ◌-◌, ◌^◌, ◌<◌, ◌≤◌, length, IfSome, MatchOption};
 ghost use Rattle.queue.specs.Heap.{Heap, Gains, Rest};
 ghost use Rattle.queue.specs.Limits.{most_entries, most_looks};
-ghost use Rattle.queue.specs.Calls.{word_of, Lowest, Pushes, Takes, Pops, Answered};
+ghost use Rattle.queue.specs.Calls.{word_of, Lowest, Pushes, Pops};
 
 use model::units::{Cell, Height};
 
@@ -62,13 +62,13 @@ impl<'a> Queue<'a> {
         ensures content { self.old.len < length self.old.words.now →
             Gains self.old.words.now self.old.len (word_of entry) self.new.words.now self.new.len }
         ensures rest { Rest self.old.words.now (self.old.len + 1) self.new.words.now }
-        ensures few { Answered result (λ looks. (k : ℕ) → self.old.len < 2 ^ k → looks ≤ k) }
-        ensures limit { self.old.len ≤ most_entries → Answered result (λ looks. looks ≤ most_looks) }
+        ensures few { IfSome result (λ looks. (k : ℕ) → self.old.len < 2 ^ k → looks ≤ k) }
+        ensures limit { self.old.len ≤ most_entries → IfSome result (λ looks. looks ≤ most_looks) }
     {
         if self.len >= self.words.len() {
             return None;
         }
-        let looks = up::sift_up(self.words, self.len, entry.word());
+        let looks = self.sift_up(u64::from(entry));
         self.len += 1;
         Some(looks)
     }
@@ -79,33 +79,24 @@ impl<'a> Queue<'a> {
         ensures after { Pops self.old.words.now self.old.len self.new.words.now result }
         ensures len { MatchOption result (self.new.len ≡ self.old.len) (λ _. self.new.len ≡ self.old.len - 1) }
         ensures lowest { Heap self.old.words.now self.old.len →
-            Answered result (λ p. Lowest p.entry self.old.words.now self.old.len) }
+            IfSome result (λ p. Lowest p.entry self.old.words.now self.old.len) }
         ensures order { Heap self.old.words.now self.old.len → Heap self.new.words.now self.new.len }
-        ensures content { Answered result (λ p.
+        ensures content { IfSome result (λ p.
             Gains self.new.words.now self.new.len (word_of p.entry) self.old.words.now self.old.len) }
         ensures rest { Rest self.old.words.now (self.old.len - 1) self.new.words.now }
-        ensures few { Answered result (λ p. (k : ℕ) → self.old.len ≤ 2 ^ k → p.looks ≤ k) }
-        ensures limit { self.old.len ≤ most_entries → Answered result (λ p. p.looks ≤ most_looks) }
+        ensures few { IfSome result (λ p. (k : ℕ) → self.old.len ≤ 2 ^ k → p.looks ≤ k) }
+        ensures limit { self.old.len ≤ most_entries → IfSome result (λ p. p.looks ≤ most_looks) }
     {
         if self.len == 0 || self.len > self.words.len() {
             return None;
         }
-        let popped = take_first(self.words, self.len);
         self.len -= 1;
-        Some(popped)
-    }
-}
-
-// Takes the first of the first `len` words out, and lets the last of them go down from there among the others.
-fn take_first(heap: &mut [u64], len: usize) -> Popped
-    requires { (0 < len) × (len ≤ length heap.old) }
-    ensures { Takes heap.old len heap.new result }
-{
-    let first = heap[0];
-    let last = heap[len - 1];
-    let looks = down::sift_down(heap, len - 1, last);
-    Popped {
-        entry: Entry::of_word(first),
-        looks,
+        let first = self.words[0];
+        let last = self.words[self.len];
+        let looks = self.sift_down(last);
+        Some(Popped {
+            entry: Entry::from(first),
+            looks,
+        })
     }
 }

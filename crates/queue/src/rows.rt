@@ -1,4 +1,5 @@
-// What is promised of rows of pushes and pops, of whatever length.
+// What is promised of rows of pushes and pops, of whatever length, and of the order in which entries come out.
+ghost use Rattle.queue.specs.Calls.{WordsInOrder};
 ghost use Rattle.queue.specs.Rows.{Sorts, LosesNothing, KeepsOrder, RefusesNone};
 
 // Entries that are pushed and then popped come out in order.
@@ -11,4 +12,9 @@ pub fn loses_nothing()
     ensures kept { LosesNothing }
     ensures order { KeepsOrder }
     ensures all { RefusesNone }
+{}
+
+// To compare words is to compare entries, by level and then by number.
+pub fn words_in_order()
+    ensures { WordsInOrder }
 {}

@@ -60,10 +60,11 @@ fn refusals_change_nothing(rt: HostRuntime) {
     assert_eq!(rt; words, [1, 8]);
 }
 
-// The level stands in the high half of a word.
+// The level stands in the high half of a word, and words stand in the order of their entries.
 #[test]
 fn words_read_back(rt: HostRuntime) {
-    assert_eq!(rt; entry(1, 2).word(), 4_294_967_298);
-    assert_eq!(rt; Entry::of_word(4_294_967_298), entry(1, 2));
-    assert!(rt; coding::precedes(entry(1, 9).word(), entry(2, 0).word()));
+    assert_eq!(rt; u64::from(entry(1, 2)), 4_294_967_298);
+    assert_eq!(rt; Entry::from(4_294_967_298), entry(1, 2));
+    assert!(rt; entry(1, 9) < entry(2, 0));
+    assert!(rt; u64::from(entry(1, 9)) < u64::from(entry(2, 0)));
 }

@@ -1,33 +1,29 @@
 // An entry goes up in a heap, from parent to parent.
 ghost use Rattle.std.specs.Prelude.{◌≡◌, ◌<◌, length};
-ghost use Rattle.queue.specs.Heap.{sifted, parent_of, pushed};
+ghost use Rattle.queue.specs.Heap.{sifted, pushed};
 
-use crate::coding::precedes;
+use crate::Queue;
 
-// The place of the parent of a place that is not the first.
-fn parent(place: usize) -> usize
-    requires { 0 < place }
-    ensures { result ≡ parent_of place }
-{
-    (place - 1) / 2
-}
-
-// Puts `coded` in at the free place `start` and lets it go up. Returns the number of parents looked at.
-pub(crate) fn sift_up(heap: &mut [u64], start: usize, coded: u64) -> u32
-    requires { start < length heap.old }
-    ensures { sifted heap.new result ≡ pushed heap.old start coded }
-{
-    let mut looks = 0;
-    let mut free = start;
-    while free > 0 {
-        let above = parent(free);
-        looks += 1;
-        if !precedes(coded, heap[above]) {
-            break;
+impl Queue<'_> {
+    // Puts `coded` in behind the entries, without counting it, and lets it go up. Returns the number of parents looked at.
+    pub(crate) fn sift_up(&mut self, coded: u64) -> u32
+        requires { self.old.len < length self.old.words.now }
+        ensures same_reference { self.new.words.ghost_name ≡ self.old.words.ghost_name }
+        ensures words { sifted self.new.words.now result ≡ pushed self.old.words.now self.old.len coded }
+        ensures len { self.new.len ≡ self.old.len }
+    {
+        let mut looks = 0;
+        let mut free = self.len;
+        while free > 0 {
+            let parent = (free - 1) / 2;
+            looks += 1;
+            if coded >= self.words[parent] {
+                break;
+            }
+            self.words[free] = self.words[parent];
+            free = parent;
         }
-        heap[free] = heap[above];
-        free = above;
+        self.words[free] = coded;
+        looks
     }
-    heap[free] = coded;
-    looks
 }
