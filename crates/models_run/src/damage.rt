@@ -5,14 +5,13 @@ use std::alloc::{AllocError, Global};
 // Changes one byte, a little or to any other.
 fn change_byte(dice: &mut Dice, bytes: &mut [u8]) {
     let at = dice.place_in(bytes.len());
-    if at >= bytes.len() {
-        return;
+    if let Some(byte) = bytes.get_mut(at) {
+        *byte = match dice.below(3) {
+            0 => byte.wrapping_add(1),
+            1 => byte.wrapping_sub(1),
+            _ => *byte ^ dice.some_byte(),
+        };
     }
-    bytes[at] = match dice.below(3) {
-        0 => bytes[at].wrapping_add(1),
-        1 => bytes[at].wrapping_sub(1),
-        _ => bytes[at] ^ dice.some_byte(),
-    };
 }
 
 // A copy that is cut short, goes on, or has one other byte.
@@ -21,7 +20,7 @@ pub fn damaged(heap: Global, dice: &mut Dice, bytes: &[u8]) -> Result<Vec<u8>, A
     match dice.below(6) {
         0 => copy.truncate(dice.place_in(bytes.len())),
         1 => {
-            for _ in 0..dice.below(20).saturating_add(1) {
+            for _ in 0..=dice.below(20) {
                 copy.push(dice.some_byte())?;
             }
         }

@@ -1,8 +1,11 @@
 // A model as a plain list of its cells, and which of them lie side by side.
 use std::alloc::{AllocError, Global};
 
+// The most that a height or a rain may be.
+pub const MOST: u32 = 1_000_000;
+
 // What a model says of a cell.
-#[derive(Clone, Copy)]
+#[derive(Clone, Copy, Default)]
 pub struct Spot {
     pub height: u32,
     pub rain: u32,
@@ -10,7 +13,7 @@ pub struct Spot {
 }
 
 // The cells of a model, along its rows.
-#[derive(Drop)]
+#[derive(Clone, Drop)]
 pub struct Ground {
     pub columns: u16,
     pub rows: u16,
@@ -18,63 +21,41 @@ pub struct Ground {
 }
 
 impl Ground {
-    // A cell's height, 0 where there is no such cell.
-    pub fn height(&self, cell: usize) -> u32 {
-        match self.spots.get(cell) {
-            Some(spot) => spot.height,
-            None => 0,
-        }
+    // How many cells there are.
+    pub fn cells(&self) -> u32 {
+        u32::from(self.columns) * u32::from(self.rows)
     }
 
-    // A cell's rain, 0 where there is no such cell.
-    pub fn rain(&self, cell: usize) -> u32 {
-        match self.spots.get(cell) {
-            Some(spot) => spot.rain,
-            None => 0,
-        }
+    // What the model says of a cell; low, dry and no drain where there is no such cell.
+    pub fn spot(&self, cell: usize) -> Spot {
+        self.spots.get(cell).copied().unwrap_or_default()
     }
 
-    fn drain(&self, cell: usize) -> bool {
-        match self.spots.get(cell) {
-            Some(spot) => spot.drain,
-            None => false,
-        }
+    // The cells above, left of, right of and below a cell, as far as there are such cells.
+    pub fn beside(&self, cell: usize) -> [Option<usize>; 4] {
+        let columns = usize::from(self.columns);
+        let row = cell.checked_div(columns).unwrap_or(0);
+        let column = cell.checked_rem(columns).unwrap_or(0);
+        let last_row = row.saturating_add(1) == usize::from(self.rows);
+        let last_column = column.saturating_add(1) == columns;
+        [
+            cell.checked_sub(columns).filter(|_| row > 0),
+            cell.checked_sub(1).filter(|_| column > 0),
+            cell.checked_add(1).filter(|_| !last_column),
+            cell.checked_add(columns).filter(|_| !last_row),
+        ]
     }
 
-    fn row(&self, cell: usize) -> usize {
-        cell.checked_div(usize::from(self.columns)).unwrap_or(0)
-    }
-
-    fn column(&self, cell: usize) -> usize {
-        cell.checked_rem(usize::from(self.columns)).unwrap_or(0)
-    }
-
-    fn is_last_column(&self, cell: usize) -> bool {
-        self.column(cell).saturating_add(1) == usize::from(self.columns)
-    }
-
-    fn is_last_row(&self, cell: usize) -> bool {
-        self.row(cell).saturating_add(1) == usize::from(self.rows)
-    }
-
-    // Whether water leaves the land from a cell.
+    // Whether water leaves the land from a cell: one at the edge, where a side is missing, or a drain.
     pub fn leaves(&self, cell: usize) -> bool {
-        self.row(cell) == 0
-            || self.column(cell) == 0
-            || self.is_last_row(cell)
-            || self.is_last_column(cell)
-            || self.drain(cell)
+        self.beside(cell).contains(&None) || self.spot(cell).drain
     }
 
-    // The cell at one of the four sides of a cell.
-    pub fn beside(&self, cell: usize, side: u32) -> Option<usize> {
-        match side {
-            0 if self.row(cell) > 0 => cell.checked_sub(usize::from(self.columns)),
-            1 if self.column(cell) > 0 => cell.checked_sub(1),
-            2 if !self.is_last_column(cell) => cell.checked_add(1),
-            3 if !self.is_last_row(cell) => cell.checked_add(usize::from(self.columns)),
-            _ => None,
-        }
+    // All the rain on the model.
+    pub fn all_rain(&self) -> u64 {
+        self.spots
+            .iter()
+            .fold(0, |sum: u64, spot| sum.wrapping_add(u64::from(spot.rain)))
     }
 
     // The model's file.
@@ -82,7 +63,7 @@ impl Ground {
         let mut bytes = Vec::new(heap);
         bytes.extend_from_slice(&self.columns.to_le_bytes())?;
         bytes.extend_from_slice(&self.rows.to_le_bytes())?;
-        for spot in self.spots.iter() {
+        for spot in &self.spots {
             bytes.extend_from_slice(&spot.height.to_le_bytes())?;
             bytes.extend_from_slice(&spot.rain.to_le_bytes())?;
             bytes.push(u8::from(spot.drain))?;

@@ -1,31 +1,41 @@
 // The slices that draining is lent, and what it leaves in them.
-use crate::lists::{long_at, word_at};
 use crate::numbers::Dice;
+use crate::rows::{Row, cell_of};
 use amounts::answer::Drained;
 use amounts::draining::drain;
 use changes::answer::Answer;
 use changes::asked::Asked;
 use changes::failure::Failure;
 use changes::row::apply_row;
-use model::refusal::Refusal;
+use model::refusal::{Lent, Refusal};
 use std::alloc::{AllocError, Global};
 
 // What lies in the slices before.
 const OLD: u32 = 77;
 
-// The four slices.
+// The lists that are lent as the four slices.
 #[derive(Drop)]
-pub struct Slices {
-    pub levels: Vec<u32>,
-    pub flow: Vec<u32>,
-    pub amounts: Vec<u64>,
-    pub work: Vec<u64>,
+pub struct Lists {
+    levels: Vec<u32>,
+    flow: Vec<u32>,
+    amounts: Vec<u64>,
+    work: Vec<u64>,
 }
 
-impl Slices {
-    // Slices for a number of cells.
-    pub fn new(heap: Global, cells: usize) -> Result<Slices, AllocError> {
-        Ok(Slices {
+// Takes the last entry from a list once in so many times; the slice that is too short then.
+fn cut_once_in<T: Drop>(
+    times: u32,
+    dice: &mut Dice,
+    list: &mut Vec<T>,
+    lent: Lent,
+) -> Option<Lent> {
+    (dice.below(times) == 0 && list.pop().is_some()).then_some(lent)
+}
+
+impl Lists {
+    // Lists for a number of cells.
+    pub fn new(heap: Global, cells: usize) -> Result<Lists, AllocError> {
+        Ok(Lists {
             levels: vec![in heap; OLD; cells]?,
             flow: vec![in heap; OLD; cells]?,
             amounts: vec![in heap; u64::from(OLD); cells]?,
@@ -62,42 +72,26 @@ impl Slices {
         )
     }
 
-    // Takes the last entry from some of the slices; the number of the first that is too short then.
-    pub fn cut_some(&mut self, dice: &mut Dice) -> Option<usize> {
-        let mut first = None;
-        if dice.below(2) == 0 && self.work.pop().is_some() {
-            first = Some(3);
-        }
-        if dice.below(3) == 0 && self.amounts.pop().is_some() {
-            first = Some(2);
-        }
-        if dice.below(4) == 0 && self.flow.pop().is_some() {
-            first = Some(1);
-        }
-        if dice.below(5) == 0 && self.levels.pop().is_some() {
-            first = Some(0);
-        }
-        first
+    // Takes the last entry from some of the lists; the first slice that is too short then.
+    pub fn cut_some(&mut self, dice: &mut Dice) -> Option<Lent> {
+        let work = cut_once_in(2, dice, &mut self.work, Lent::Work);
+        let amounts = cut_once_in(3, dice, &mut self.amounts, Lent::Amounts);
+        let flow = cut_once_in(4, dice, &mut self.flow, Lent::Flow);
+        let levels = cut_once_in(5, dice, &mut self.levels, Lent::Levels);
+        levels.or(flow).or(amounts).or(work)
     }
 
-    // A cell's place in the order.
-    pub fn place(&self, cell: usize) -> u64 {
-        long_at(
-            &self.work,
-            self.levels.len().saturating_mul(2).saturating_add(cell),
-        )
-    }
-
-    // The table of what draining left.
-    pub fn table(&self, heap: Global) -> Result<Vec<u8>, AllocError> {
-        let mut bytes = Vec::new(heap);
-        for cell in 0..self.levels.len() {
-            let place = u32::try_from(self.place(cell)).unwrap_or(0);
-            bytes.extend_from_slice(&word_at(&self.levels, cell).to_le_bytes())?;
-            bytes.extend_from_slice(&word_at(&self.flow, cell).to_le_bytes())?;
-            bytes.extend_from_slice(&place.to_le_bytes())?;
-            bytes.extend_from_slice(&long_at(&self.amounts, cell).to_le_bytes())?;
-        }
-        Ok(bytes)
+    // What draining left of each cell. The places stand in the last third of the work.
+    pub fn rows(&self, heap: Global) -> Result<Vec<Row>, AllocError> {
+        let places = self.work.iter().skip(self.levels.len().saturating_mul(2));
+        let levels = self.levels.iter().zip(self.flow.iter());
+        let rows = levels.zip(places).zip(self.amounts.iter());
+        rows.map(|(((level, flow), place), amount)| Row {
+            level: *level,
+            sends: cell_of(*flow),
+            place: *place,
+            amount: *amount,
+        })
+        .collect(heap)
     }
 }

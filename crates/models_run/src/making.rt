@@ -52,12 +52,8 @@ pub fn some_ground(
     rows: u16,
 ) -> Result<Ground, AllocError> {
     let kind = some_kind(dice);
-    let mut spots = Vec::new(heap);
-    for _ in 0..rows {
-        for _ in 0..columns {
-            spots.push(some_spot(dice, kind))?;
-        }
-    }
+    let cells = u32::from(columns) * u32::from(rows);
+    let spots = (0..cells).map(|_| some_spot(dice, kind)).collect(heap)?;
     Ok(Ground {
         columns,
         rows,

@@ -1,26 +1,25 @@
 // Numbers that look random, the same ones from the same start.
 
-// Where a row of numbers stands; the start is not 0.
+// Where a row of numbers stands, which is never 0.
 #[derive(Clone, Copy)]
 pub struct Dice(pub u64);
 
 impl Dice {
     // The next number.
     fn roll(&mut self) -> u64 {
-        let mut number = self.0;
-        number ^= number << 13;
-        number ^= number >> 7;
-        number ^= number << 17;
-        self.0 = number;
-        number
+        self.0 ^= self.0 << 13;
+        self.0 ^= self.0 >> 7;
+        self.0 ^= self.0 << 17;
+        self.0
     }
 
     // The next number, taken below a bound; 0 where the bound is 0.
     pub fn below(&mut self, bound: u32) -> u32 {
-        match self.roll().checked_rem(u64::from(bound)) {
-            Some(number) => u32::try_from(number).unwrap_or(0),
-            None => 0,
+        let number = self.roll();
+        if bound == 0 {
+            return 0;
         }
+        (number % u64::from(bound)) as u32
     }
 
     // A place in a list of some length.
@@ -30,6 +29,6 @@ impl Dice {
 
     // A byte that is not 0.
     pub fn some_byte(&mut self) -> u8 {
-        u8::try_from(self.below(255)).unwrap_or(0).saturating_add(1)
+        (self.roll() % 255) as u8 + 1
     }
 }

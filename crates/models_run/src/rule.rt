@@ -1,98 +1,94 @@
 // Levels, flow, places and amounts by looking through all cells at each step.
 use crate::land::Ground;
-use crate::lists::{long_at, mark_at, set_long, set_mark, set_word, word_at};
+use crate::rows::Row;
 use std::alloc::{AllocError, Global};
 
-// The code of off the land, and of no level yet.
-pub const NONE: u32 = u32::MAX;
-
-// An entry for each cell.
-#[derive(Drop)]
-pub struct Answer {
-    pub levels: Vec<u32>,
-    pub flow: Vec<u32>,
-    pub places: Vec<u64>,
-    pub amounts: Vec<u64>,
+// What is known of a cell so far: its level and its place, if it has them, where it sends its water, and its amount.
+#[derive(Clone, Copy)]
+struct Known {
+    level: Option<u32>,
+    place: Option<u64>,
+    sends: Option<usize>,
+    amount: u64,
 }
 
-// Of the cells that have a level and no place the one with the lowest level, of equals the one with the lowest number.
-fn lowest_open(levels: &[u32], placed: &[bool]) -> Option<usize> {
-    let mut found = None;
-    let mut least = NONE;
-    for (cell, level) in levels.iter().enumerate() {
-        if *level < least && !mark_at(placed, cell) {
-            least = *level;
-            found = Some(cell);
-        }
+impl Known {
+    // The cell's row, once it has a level and a place.
+    fn row(self) -> Option<Row> {
+        Some(Row {
+            level: self.level?,
+            place: self.place?,
+            sends: self.sends,
+            amount: self.amount,
+        })
     }
-    found
 }
 
-// An outlet has its height as its level.
-fn open_outlets(ground: &Ground, levels: &mut [u32]) {
-    for cell in 0..ground.spots.len() {
-        if ground.leaves(cell) {
-            set_word(levels, cell, ground.height(cell));
-        }
-    }
+// An outlet has its height as its level; nothing else is known at first.
+fn known_first(heap: Global, ground: &Ground) -> Result<Vec<Known>, AllocError> {
+    let spots = ground.spots.iter().enumerate();
+    spots
+        .map(|(cell, spot)| Known {
+            level: ground.leaves(cell).then_some(spot.height),
+            place: None,
+            sends: None,
+            amount: 0,
+        })
+        .collect(heap)
+}
+
+// The lowest level of the cells that have one and no place, and of these cells the one with the lowest number.
+fn lowest_open(known: &[Known]) -> Option<(u32, usize)> {
+    let open = known
+        .iter()
+        .enumerate()
+        .filter(|(_, at)| at.place.is_none());
+    open.filter_map(|(cell, at)| Some((at.level?, cell))).min()
 }
 
 // The cells beside a cell that have no level yet get one, and send to it.
-fn open_beside(ground: &Ground, levels: &mut [u32], flow: &mut [u32], cell: usize) {
-    let level = word_at(levels, cell);
-    for side in 0..4 {
-        if let Some(next) = ground.beside(cell, side) {
-            if word_at(levels, next) == NONE {
-                set_word(levels, next, level.max(ground.height(next)));
-                set_word(flow, next, u32::try_from(cell).unwrap_or(NONE));
-            }
+fn open_beside(ground: &Ground, known: &mut [Known], cell: usize, level: u32) {
+    for next in ground.beside(cell).into_iter().flatten() {
+        if let Some(at) = known.get_mut(next)
+            && at.level.is_none()
+        {
+            at.level = Some(level.max(ground.spot(next).height));
+            at.sends = Some(cell);
         }
-    }
-}
-
-// The rain on a cell comes to every cell on its way along the flow.
-fn carry_rain(ground: &Ground, flow: &[u32], amounts: &mut [u64], cell: usize) {
-    let rain = u64::from(ground.rain(cell));
-    let mut at = cell;
-    for _ in 0..ground.spots.len() {
-        set_long(amounts, at, long_at(amounts, at).wrapping_add(rain));
-        let to = word_at(flow, at);
-        if to == NONE {
-            break;
-        }
-        at = to as usize;
     }
 }
 
 // Places the cells one by one.
-fn place_all(ground: &Ground, answer: &mut Answer, placed: &mut [bool]) {
-    for place in 0..ground.spots.len() {
-        if let Some(cell) = lowest_open(&answer.levels, placed) {
-            set_mark(placed, cell, true);
-            set_long(&mut answer.places, cell, place as u64);
-            open_beside(ground, &mut answer.levels, &mut answer.flow, cell);
+fn place_all(ground: &Ground, known: &mut [Known]) {
+    for place in 0..known.len() {
+        let Some((level, cell)) = lowest_open(known) else {
+            break;
+        };
+        if let Some(at) = known.get_mut(cell) {
+            at.place = Some(place as u64);
         }
+        open_beside(ground, known, cell, level);
     }
 }
 
-// An answer in which nothing is known yet.
-fn empty(heap: Global, cells: usize) -> Result<Answer, AllocError> {
-    Ok(Answer {
-        levels: vec![in heap; NONE; cells]?,
-        flow: vec![in heap; NONE; cells]?,
-        places: vec![in heap; 0u64; cells]?,
-        amounts: vec![in heap; 0u64; cells]?,
-    })
+// The rain on a cell comes to every cell on its way along the flow.
+fn carry_rain(known: &mut [Known], cell: usize, rain: u32) {
+    let mut next = Some(cell);
+    for _ in 0..known.len() {
+        let Some(at) = next.and_then(|cell| known.get_mut(cell)) else {
+            break;
+        };
+        at.amount = at.amount.wrapping_add(u64::from(rain));
+        next = at.sends;
+    }
 }
 
 // What draining the model must give.
-pub fn worked_out(heap: Global, ground: &Ground) -> Result<Answer, AllocError> {
-    let mut placed = vec![in heap; false; ground.spots.len()]?;
-    let mut answer = empty(heap, ground.spots.len())?;
-    open_outlets(ground, &mut answer.levels);
-    place_all(ground, &mut answer, &mut placed);
-    for cell in 0..ground.spots.len() {
-        carry_rain(ground, &answer.flow, &mut answer.amounts, cell);
+pub fn worked_out(heap: Global, ground: &Ground) -> Result<Vec<Row>, AllocError> {
+    let mut known = known_first(heap, ground)?;
+    place_all(ground, &mut known);
+    for (cell, spot) in ground.spots.iter().enumerate() {
+        carry_rain(&mut known, cell, spot.rain);
     }
-    Ok(answer)
+    known.iter().filter_map(|at| at.row()).collect(heap)
 }

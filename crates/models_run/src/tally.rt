@@ -1,45 +1,132 @@
 // What was compared.
-use crate::faults::Fault;
+use model::refusal::Refusal;
+use std::alloc::{AllocError, Global};
+use std::collections::{BTreeMap, BTreeSet};
+use std::fmt;
 
-// How many comparisons agree and how many differ; how often each refusal was expected, and under 0 none.
-#[derive(Clone, Copy)]
+// A sort of comparison.
+#[derive(Clone, Copy, PartialEq, Eq, PartialOrd, Ord, Debug)]
+pub enum Comparison {
+    Ways,
+    Floods,
+    Rule,
+    Sums,
+    Tables,
+    ShortSlices,
+    DamagedModels,
+    DamagedTables,
+    Rows,
+}
+
+impl fmt::Display for Comparison {
+    fn fmt<W: fmt::Write>(&self, f: &mut fmt::Formatter<W>) -> fmt::Result {
+        f.write_str(match self {
+            Comparison::Ways => "levels by all ways off the land",
+            Comparison::Floods => "levels by floods at every height",
+            Comparison::Rule => "levels, flow, places, amounts by the rule",
+            Comparison::Sums => "sums of rain and of what leaves",
+            Comparison::Tables => "tables accepted",
+            Comparison::ShortSlices => "slices cut short",
+            Comparison::DamagedModels => "damaged models",
+            Comparison::DamagedTables => "damaged tables",
+            Comparison::Rows => "rows of changes",
+        })
+    }
+}
+
+// How many comparisons agree and how many differ.
+#[derive(Clone, Copy, Default)]
 pub struct Tally {
-    pub agree: u32,
-    pub differ: u32,
-    pub seen: [u32; 10],
+    agree: u32,
+    differ: u32,
 }
 
 impl Tally {
-    pub fn new() -> Tally {
-        Tally {
-            agree: 0,
-            differ: 0,
-            seen: [0; 10],
+    // One comparison more.
+    fn note(&mut self, agrees: bool) {
+        let count = if agrees {
+            &mut self.agree
+        } else {
+            &mut self.differ
+        };
+        *count = count.saturating_add(1);
+    }
+}
+
+impl fmt::Display for Tally {
+    fn fmt<W: fmt::Write>(&self, f: &mut fmt::Formatter<W>) -> fmt::Result {
+        let agree = self.agree;
+        let differ = self.differ;
+        write!(f, "{agree} agree, {differ} differ")
+    }
+}
+
+// A tally for each sort of comparison, and the answers that were expected in each: a refusal by its number, or none.
+#[derive(Drop)]
+pub struct Tallies {
+    pub counts: BTreeMap<Comparison, Tally>,
+    expected: BTreeSet<(Comparison, Option<u32>)>,
+}
+
+impl Tallies {
+    pub fn new(heap: Global) -> Tallies {
+        Tallies {
+            counts: BTreeMap::new(heap),
+            expected: BTreeSet::new(heap),
         }
     }
 
     // One comparison more.
-    pub fn note(&mut self, same: bool) {
-        if same {
-            self.agree = self.agree.saturating_add(1);
-        } else {
-            self.differ = self.differ.saturating_add(1);
-        }
+    pub fn note(&mut self, comparison: Comparison, agrees: bool) -> Result<(), AllocError> {
+        self.counts.entry(comparison)?.or_default().note(agrees);
+        Ok(())
     }
 
-    // One answer more that is expected.
-    pub fn see(&mut self, expected: Option<Fault>) {
-        let number = match expected {
-            Some(fault) => fault.number as usize,
-            None => 0,
-        };
-        if number < 10 {
-            self.seen[number] = self.seen[number].saturating_add(1);
+    // A comparison of each entry found with the one expected; lists of different lengths differ once.
+    pub fn note_all<T: PartialEq>(
+        &mut self,
+        comparison: Comparison,
+        found: &[T],
+        expected: &[T],
+    ) -> Result<(), AllocError> {
+        if found.len() != expected.len() {
+            return self.note(comparison, false);
         }
+        for (found, expected) in found.iter().zip(expected) {
+            self.note(comparison, found == expected)?;
+        }
+        Ok(())
     }
 
-    // Whether an answer was expected at least once.
-    pub fn has_seen(&self, number: usize) -> bool {
-        number < 10 && self.seen[number] > 0
+    // A comparison of the refusal found, if there is one, with the one expected.
+    pub fn note_refusal(
+        &mut self,
+        comparison: Comparison,
+        found: Option<Refusal>,
+        expected: Option<Refusal>,
+    ) -> Result<(), AllocError> {
+        let number = expected.map(|refusal| refusal.number());
+        self.expected.insert((comparison, number))?;
+        self.note(comparison, found == expected)
+    }
+
+    // Whether no comparison differs.
+    pub fn all_agree(&self) -> bool {
+        self.counts.values().all(|tally| tally.differ == 0)
+    }
+
+    // Whether each refusal was expected at least once, and none too.
+    pub fn expected_every_refusal(&self) -> bool {
+        let models = [None, Some(1), Some(2), Some(3)];
+        let tables = [None, Some(6), Some(7), Some(8), Some(9)];
+        self.expected_all(Comparison::DamagedModels, &models)
+            && self.expected_all(Comparison::ShortSlices, &[None, Some(4)])
+            && self.expected_all(Comparison::DamagedTables, &tables)
+    }
+
+    // Whether each of some answers was expected at least once.
+    fn expected_all(&self, comparison: Comparison, numbers: &[Option<u32>]) -> bool {
+        let mut answers = numbers.iter().map(|number| (comparison, *number));
+        answers.all(|answer| self.expected.contains(&answer))
     }
 }
