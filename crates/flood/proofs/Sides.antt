@@ -30,12 +30,12 @@ same_step g bs s c sized =
     ap (λ h. cond (ltb c.0 (columns bs * h)) (stepped (columns bs) h s c.0) None) sized.h
 
 -- a model's grid is that of its bytes
-pub sized_as : (g : Grid) (m : Model) → g ≡ m.grid → Sized g (bytes_of m)
+sized_as : (g : Grid) (m : Model) → g ≡ m.grid → Sized g (bytes_of m)
 sized_as g m is = record { w = ap (λ x. x.w) is ∙ m.w; h = ap (λ x. x.h) is ∙ m.h }
 
 -- what stands at side i of the four neighbours
-pub at_neighbours : (g : Grid) (bs : List ℕ) (c : Cell) (sides : List (Option Cell)) (i : ℕ) (o : Option Cell) → Sized g bs → i < 4 →
-    map (option_map number) sides ≡ map (λ s. neighbour g s c) four_sides → get_or sides i None ≡ o → option_map number o ≡ neighbour_in bs (get_or four_sides i first_step) c
-at_neighbours g bs c sides i o sized l all is =
-    ap (option_map number) (sym is) ∙ (sym (get_or-map (option_map number) sides i None) ∙
-    (ap (λ xs. get_or xs i None) all ∙ (at_side (λ s. neighbour g s c) i l ∙ same_step g bs (get_or four_sides i first_step) c sized)))
+pub sides_lead : (m : Model) (g : Grid) (c : Cell) (sides : List (Option Cell)) → g ≡ m.grid → map (option_map number) sides ≡ map (λ s. neighbour g s c) four_sides →
+    (i : ℕ) → i < 4 → option_map number (get_or sides i None) ≡ neighbour_in (bytes_of m) (get_or four_sides i first_step) c
+sides_lead m g c sides of all i l =
+    sym (get_or-map (option_map number) sides i None) ∙
+    (ap (λ xs. get_or xs i None) all ∙ (at_side (λ s. neighbour g s c) i l ∙ same_step g (bytes_of m) (get_or four_sides i first_step) c (sized_as g m of)))

@@ -9,17 +9,17 @@ use Rattle.model.specs.Grid.{stepped, neighbours, four_sides}
 use Rattle.model.specs.Terrain.{terrain, land}
 use Rattle.model.specs.WellFormed.{WellFormed}
 use Rattle.model.proofs.Neighbours.{stepped_in}
-use Rattle.queue.specs.Heap.{cell_of, level_of}
-use Rattle.flood.specs.declared.progress.Progress.{Progress}
-use Rattle.flood.specs.Run.{Ground, none, State, put, begun, taken, first_cell, first_level, wants, told, spread, after, table}
+use Rattle.queue.specs.declared.Queue.{Queue}
+use Rattle.flood.specs.declared.flooding.Run.{Run}
+use Rattle.flood.specs.Run.{Ground, none, State, put, begun, taken, first_cell, first_level, wants, told, spread, after}
 use Rattle.flood.specs.Fair.{Fair, Sound, sides_of, model_ground}
-use Rattle.flood.specs.Held.{queue_part, Holds}
+use Rattle.flood.specs.Held.{Holds}
 use Rattle.flood.proofs.Kept.{has, Long, Frame, Good, Mid}
 use Rattle.flood.proofs.Putting.{fits, room}
 use Rattle.flood.proofs.Beginning.{begun_all}
 use Rattle.flood.proofs.First.{first_stands}
 use Rattle.flood.proofs.Spreading.{wants_first}
-use Rattle.flood.proofs.Reaching.{reached, turn_mid}
+use Rattle.flood.proofs.Reaching.{spread_placed, reached, turn_mid}
 use Rattle.flood.proofs.Ending.{run_goes_on}
 use Rattle.flood.proofs.Models.{few_cells, models_fair}
 
@@ -43,11 +43,11 @@ one_step_more w h k c s l e =
     ap (λ xs. neighbours w h xs c) (take_more four_sides k s l) ∙ (neighbours_append w h (take k four_sides) (get_or four_sides k s ∷ []) c ∙
     ap (λ ds. neighbours w h (take k four_sides) c ++ ds) (append-nil (option_to_list (stepped w h (get_or four_sides k s) c)) ∙ ap (λ x. option_to_list (stepped w h x c)) (sym e)))
 
--- what the program needs of its numbers
-pub record Room (n : ℕ) (p : Progress) : Type 0 where
-  pub few : n ≤ 160000
-  pub queued : p.queued < n
-  pub looks : p.looks < 2147483648
+-- what a put of cell d needs
+pub record Room (r : Run) (q : Queue) (d : ℕ) : Type 0 where
+  pub cell : (d < length r.levels.now) × (d < length r.flow.now)
+  pub room : q.len < length q.words.now
+  pub few : (q.len ≤ 800000) × (r.looks < 2147483648)
 
 module _ (bs : List ℕ) (wf : WellFormed bs) where
   pub sound : Sound (terrain bs)
@@ -66,64 +66,58 @@ module _ (bs : List ℕ) (wf : WellFormed bs) where
   abbrev g : Ground
   g = model_ground (terrain bs)
 
-  -- the outlets are put into the queue
-  pub begin_room : (k : ℕ) (ls fl wk : List ℕ) (p : Progress) → k < count bs → Holds (begun g k) ls fl wk p → Room (count bs) p
-  begin_room k ls fl wk p a h =
-      let s = begun g k in
-      let b = begun_all (land bs) (sides_of (terrain bs)) fair.low k (omega arith) in
-      let new : has s.levels k ≡ false = elim (cases_Bool (has s.levels k)) [ inl e ↦ absurd (omega (arith, b.before k a e)) | inr e ↦ e ] in
-      let r = room (land bs) s 0 k b.frame a new in
+  -- slices that hold a state in which cell d has no level yet
+  room_for : (s : State) (w d : ℕ) (r : Run) (q : Queue) → Frame (land bs) s w → d < count bs → has s.levels d ≡ false → Holds s r q → Room r q d
+  room_for s w d r q fr a new h =
+      let fewer = room (land bs) s w d fr a new in
+      let len = ap (λ t. t.queued) h in
       record {
-        few = small;
-        queued = omega (arith, r, ap (λ t. t.queued) h);
-        looks = omega (arith, few_looks s 0 b.frame, ap (λ t. t.looks) h);
+        cell = (omega (arith, a, ap (λ t. length t.levels) h, fr.long.levels), omega (arith, a, ap (λ t. length t.flow) h, fr.long.flow));
+        room = omega (arith, fewer, len, ap (λ t. length t.queue) h, fr.long.queue);
+        few = (omega (arith, small, fewer, len), omega (arith, few_looks s w fr, ap (λ t. t.looks) h));
       }
 
-  pub begin_skip : (k : ℕ) (ls fl wk : List ℕ) (p : Progress) → (land bs).leaves k ≡ false → Holds (begun g k) ls fl wk p → Holds (begun g (k + 1)) ls fl wk p
-  unfolding begun
-  begin_skip k ls fl wk p e h = subst (λ s. Holds s ls fl wk p) (sym (ap (begun g) (add-one k) ∙ cond-false ((land bs).leaves k) _ _ e)) h
+  -- the outlets are put into the queue
+  pub begin_room : (k : ℕ) (r : Run) (q : Queue) → k < count bs → Holds (begun g k) r q → Room r q k
+  begin_room k r q a h =
+      let b = begun_all (land bs) (sides_of (terrain bs)) fair.low k (omega arith) in
+      room_for (begun g k) 0 k r q b.frame a (elim (cases_Bool (has (begun g k).levels k)) [ inl e ↦ absurd (omega (arith, b.before k a e)) | inr e ↦ e ]) h
 
-  pub begin_put : (k : ℕ) (ls fl wk : List ℕ) (p : Progress) → (land bs).leaves k ≡ true → Holds (put ((land bs).height k) none k (begun g k)) ls fl wk p → Holds (begun g (k + 1)) ls fl wk p
+  pub begin_skip : (k : ℕ) (r : Run) (q : Queue) → (land bs).leaves k ≡ false → Holds (begun g k) r q → Holds (begun g (k + 1)) r q
   unfolding begun
-  begin_put k ls fl wk p e h = subst (λ s. Holds s ls fl wk p) (sym (ap (begun g) (add-one k) ∙ cond-true ((land bs).leaves k) _ _ e)) h
+  begin_skip k r q e h = subst (λ s. Holds s r q) (sym (ap (begun g) (add-one k) ∙ cond-false ((land bs).leaves k) _ _ e)) h
+
+  pub begin_put : (k : ℕ) (r : Run) (q : Queue) → (land bs).leaves k ≡ true → Holds (put ((land bs).height k) none k (begun g k)) r q → Holds (begun g (k + 1)) r q
+  unfolding begun
+  begin_put k r q e h = subst (λ s. Holds s r q) (sym (ap (begun g) (add-one k) ∙ cond-true ((land bs).leaves k) _ _ e)) h
 
   -- between turns, k of which are done
-  pub record Between (k : ℕ) (p : Progress) : Type 0 where
-    pub few : count bs ≤ 160000
-    pub placed : p.placed ≡ k
-    pub queued : p.queued ≤ count bs
-    pub looks : p.looks < 2147483648
-    pub goes : 0 < p.queued → k < count bs
-    pub ends : p.queued ≡ 0 → k ≡ count bs
+  pub record Between (k : ℕ) (r : Run) (q : Queue) : Type 0 where
+    pub order : length r.order.now ≡ count bs
+    pub places : length r.places.now ≡ count bs
+    pub placed : r.placed ≡ k
+    pub few : (q.len ≤ 800000) × (q.len ≤ length q.words.now) × (r.looks < 2147483648)
+    pub goes : 0 < q.len → k < count bs
+    pub ends : q.len ≡ 0 → k ≡ count bs
 
-  pub between : (k : ℕ) (ls fl wk : List ℕ) (p : Progress) → k ≤ count bs → Holds (after g k) ls fl wk p → Between k p
-  between k ls fl wk p a h =
+  pub between : (k : ℕ) (r : Run) (q : Queue) → k ≤ count bs → Holds (after g k) r q → Between k r q
+  between k r q a h =
       let s = after g k in
-      let r = reached (land bs) (sides_of (terrain bs)) fair k a in
-      let fr = r.1.good.frame in
-      let f = fits (land bs) s r.0 fr in
-      let q = ap (λ t. t.queued) h in
-      let pl = ap (λ t. t.placed) h ∙ r.1.turns in
+      let at = reached (land bs) (sides_of (terrain bs)) fair k a in
+      let fr = at.1.good.frame in
+      let fit = fits (land bs) s at.0 fr in
+      let len = ap (λ t. t.queued) h in
       record {
-        few = small;
-        placed = pl;
-        queued = omega (arith, f, q);
-        looks = omega (arith, few_looks s r.0 fr, ap (λ t. t.looks) h);
-        goes = λ some. omega (arith, f, q, r.1.turns);
+        order = ap (λ t. length t.order) h ∙ fr.long.order;
+        places = ap (λ t. length t.places) h ∙ fr.long.places;
+        placed = ap (λ t. t.placed) h ∙ at.1.turns;
+        few = (omega (arith, small, fit, len), omega (arith, fit, len, ap (λ t. length t.queue) h, fr.long.queue), omega (arith, few_looks s at.0 fr, ap (λ t. t.looks) h));
+        goes = λ some. omega (arith, fit, len, at.1.turns);
         ends = λ empty. elim (cases_lt k (count bs)) [
-          | inl more ↦ absurd (omega (arith, q, (run_goes_on (land bs) (sides_of (terrain bs)) fair k more).0))
+          | inl more ↦ absurd (omega (arith, len, (run_goes_on (land bs) (sides_of (terrain bs)) fair k more).0))
           | inr all ↦ omega arith
         ];
       }
-
-  -- the first entry is a cell's
-  pub first_is : (k : ℕ) (ls fl wk : List ℕ) (p : Progress) → Holds (after g k) ls fl wk p →
-      (cell_of (get_or (queue_part (length ls) wk) 0 0) ≡ first_cell (after g k)) × (level_of (get_or (queue_part (length ls) wk) 0 0) ≡ first_level (after g k))
-  first_is k ls fl wk p h = (ap first_cell h, ap first_level h)
-
-  -- the lists of the last state have an entry for each cell
-  pub table_long : Long (count bs) (table g)
-  table_long = (reached (land bs) (sides_of (terrain bs)) fair (count bs) (omega arith)).1.good.frame.long
 
   module _ (k : ℕ) (more : k < count bs) where
     abbrev s : State
@@ -160,11 +154,18 @@ module _ (bs : List ℕ) (wf : WellFormed bs) where
     told_mid i = turn_mid (land bs) (sides_of (terrain bs)) fair s at.0 at.1 some (front i) (rest i)
         (ap (λ xs. neighbours (columns bs) (rows bs) xs c) (sym (take-append-drop i four_sides)) ∙ neighbours_append (columns bs) (rows bs) (take i four_sides) (drop i four_sides) c)
 
+    pub told_long : (i : ℕ) → Long (count bs) (told_to i)
+    told_long i = (told_mid i).frame.long
+
+    pub told_placed : (i : ℕ) → (told_to i).placed ≡ k + 1
+    unfolding taken
+    told_placed i = spread_placed g c v (front i) (taken s) ∙ ap (λ x. x + 1) (reached (land bs) (sides_of (terrain bs)) fair k (omega arith)).1.turns
+
     -- a step leads to no cell, and nothing changes
-    pub tell_none : (i : ℕ) (t : Step) (ls fl wk : List ℕ) (p : Progress) → i < 4 → t ≡ get_or four_sides i t → stepped (columns bs) (rows bs) t c ≡ None →
-        Holds (told_to i) ls fl wk p → Holds (told_to (i + 1)) ls fl wk p
-    tell_none i t ls fl wk p l e nowhere h =
-        subst (λ ds. Holds (spread g c v ds (taken s)) ls fl wk p)
+    pub tell_none : (i : ℕ) (t : Step) (r : Run) (q : Queue) → i < 4 → t ≡ get_or four_sides i t → stepped (columns bs) (rows bs) t c ≡ None →
+        Holds (told_to i) r q → Holds (told_to (i + 1)) r q
+    tell_none i t r q l e nowhere h =
+        subst (λ ds. Holds (spread g c v ds (taken s)) r q)
         (sym (one_step_more (columns bs) (rows bs) i c t l e ∙ (ap (λ o. front i ++ option_to_list o) nowhere ∙ append-nil (front i)))) h
 
     -- a step leads to cell d
@@ -179,36 +180,27 @@ module _ (bs : List ℕ) (wf : WellFormed bs) where
       wants_is = wants_first (land bs) (sides_of (terrain bs)) (told_to i) v d (told_mid i).frame cell_in
 
       -- that has a level, and nothing changes
-      pub tell_has : (ls fl wk : List ℕ) (p : Progress) → (get_or ls d 0 ≡ none → ⊥) → Holds (told_to i) ls fl wk p → Holds (told_to (i + 1)) ls fl wk p
+      pub tell_has : (r : Run) (q : Queue) → (get_or r.levels.now d 0 ≡ none → ⊥) → Holds (told_to i) r q → Holds (told_to (i + 1)) r q
       unfolding told
-      tell_has ls fl wk p has_level h =
+      tell_has r q has_level h =
           let level = ap (λ x. get_or x.levels d 0) h in
           let same = told_more ∙ cond-false (wants g v d (told_to i)) _ _ (wants_is ∙ ne_eqb _ _ (λ e. has_level (level ∙ e))) in
-          subst (λ x. Holds x ls fl wk p) (sym same) h
+          subst (λ x. Holds x r q) (sym same) h
 
       -- that has none, for which there is room
-      pub tell_room : (ls fl wk : List ℕ) (p : Progress) → get_or ls d 0 ≡ none → Holds (told_to i) ls fl wk p → Room (count bs) p
-      tell_room ls fl wk p new h =
-          let level = ap (λ x. get_or x.levels d 0) h in
-          let fr = (told_mid i).frame in
-          let none_yet : has (told_to i).levels d ≡ false = le-ltb _ _ (omega (arith, level)) in
-          let r = room (land bs) (told_to i) v d fr cell_in none_yet in
-          record {
-            few = small;
-            queued = omega (arith, r, ap (λ x. x.queued) h);
-            looks = omega (arith, few_looks (told_to i) v fr, ap (λ x. x.looks) h);
-          }
+      pub tell_room : (r : Run) (q : Queue) → get_or r.levels.now d 0 ≡ none → Holds (told_to i) r q → Room r q d
+      tell_room r q new h = room_for (told_to i) v d r q (told_mid i).frame cell_in (le-ltb _ _ (omega (arith, ap (λ x. get_or x.levels d 0) h))) h
 
       -- and which is put into the queue
-      pub tell_put : (ls fl wk ls' fl' wk' : List ℕ) (p p' : Progress) → get_or ls d 0 ≡ none → Holds (told_to i) ls fl wk p →
-          Holds (put (max ((land bs).height d) v) c d (told_to i)) ls' fl' wk' p' → Holds (told_to (i + 1)) ls' fl' wk' p'
+      pub tell_put : (r r' : Run) (q q' : Queue) → get_or r.levels.now d 0 ≡ none → Holds (told_to i) r q →
+          Holds (put (max ((land bs).height d) v) c d (told_to i)) r' q' → Holds (told_to (i + 1)) r' q'
       unfolding told
-      tell_put ls fl wk ls' fl' wk' p p' new h after_put =
+      tell_put r r' q q' new h after_put =
           let level = ap (λ x. get_or x.levels d 0) h in
           let same = told_more ∙ cond-true (wants g v d (told_to i)) _ _ (wants_is ∙ eq-eqb _ _ (sym level ∙ new)) in
-          subst (λ x. Holds x ls' fl' wk' p') (sym same) after_put
+          subst (λ x. Holds x r' q') (sym same) after_put
 
     -- all four are told: one turn more is done
-    pub turn_done : (ls fl wk : List ℕ) (p : Progress) → Holds (told_to 4) ls fl wk p → Holds (after g (suc k)) ls fl wk p
+    pub turn_done : (r : Run) (q : Queue) → Holds (told_to 4) r q → Holds (after g (suc k)) r q
     unfolding after
-    turn_done ls fl wk p h = h
+    turn_done r q h = h

@@ -2,7 +2,6 @@
 #![tactic(auto)]
 
 pub mod flooding;
-pub mod progress;
 pub mod sends;
 #[cfg(test)]
 mod tests;

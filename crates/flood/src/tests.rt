@@ -2,8 +2,6 @@
 use crate::flooding::flood;
 use crate::sends::NONE as OFF;
 use model::edits::{write_drain, write_height};
-use model::grid::Grid;
-use model::land::Model;
 use model::reading::read;
 use model::refusal::{Lent, Refusal};
 use model::units::{Cell, Height};
@@ -14,20 +12,17 @@ use std::test::Fail;
 fn raise(
     rt: &impl Abort,
     bytes: &mut [u8],
-    grid: Grid,
     heights: [u32; 9],
     drain: Option<u32>,
 ) -> Result<(), Fail> {
-    for c in 0..9u32 {
-        assert!(rt; write_height(grid, bytes, Cell(c), Height(heights[c as usize])));
+    let grid = read(bytes)?.grid();
+    for (c, height) in heights.iter().enumerate() {
+        assert!(rt; write_height(grid, bytes, Cell(c as u32), Height(*height)).is_ok());
     }
-    match drain {
-        Some(c) => {
-            assert!(rt; write_drain(grid, bytes, Cell(c), true));
-            Ok(())
-        },
-        None => Ok(()),
+    if let Some(c) = drain {
+        assert!(rt; write_drain(grid, bytes, Cell(c), true).is_ok());
     }
+    Ok(())
 }
 
 // What the flood gives for nine cells in rows of `w`, one of which may be a drain: levels and flow.
@@ -41,22 +36,12 @@ fn flooded(
     let mut bytes = [0u8; 85];
     bytes[0] = w;
     bytes[2] = h;
-    let grid = match read(&bytes) {
-        Ok(grid) => grid,
-        Err(_) => return Err(Fail::new("the model is refused")),
-    };
-    raise(rt, &mut bytes, grid, heights, drain)?;
+    raise(rt, &mut bytes, heights, drain)?;
     let mut levels = [0u32; 9];
     let mut flow = [0u32; 9];
     let mut work = [0u64; 27];
-    let grid = match read(&bytes) {
-        Ok(grid) => grid,
-        Err(_) => return Err(Fail::new("the model is refused")),
-    };
-    match flood(&Model::new(grid, &bytes), &mut levels, &mut flow, &mut work) {
-        Ok(_) => Ok((levels, flow)),
-        Err(_) => Err(Fail::new("a slice is too short")),
-    }
+    flood(&read(&bytes)?, &mut levels, &mut flow, &mut work)?;
+    Ok((levels, flow))
 }
 
 // A hollow is filled to its rim, and sends to the first cell taken next to it.
@@ -111,11 +96,7 @@ fn drains_a_row_and_a_column(rt: HostRuntime) -> Result<(), Fail> {
 #[test]
 fn keeps_what_it_must(rt: HostRuntime) -> Result<(), Fail> {
     let bytes = [1, 0, 1, 0, 4, 0, 0, 0, 1, 0, 0, 0, 0];
-    let grid = match read(&bytes) {
-        Ok(grid) => grid,
-        Err(_) => return Err(Fail::new("the model is refused")),
-    };
-    let model = Model::new(grid, &bytes);
+    let model = read(&bytes)?;
     let mut levels = [8u32, 8];
     let mut flow = [8u32, 8];
     let mut work = [8u64, 8, 8, 8];
