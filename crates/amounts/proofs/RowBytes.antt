@@ -1,35 +1,41 @@
 -- The bytes of a row: numbers written and read, and a row in the middle of a table.
-use Rattle.std.proofs.Common.{◌≡◌, ℕ, ◌+◌, ◌-◌, ◌*◌, ◌/◌, ◌%◌, ◌^◌, ◌<◌, ◌≤◌, ◌⊎◌, List, [], ◌∷◌, ◌++◌, length, get_or, take, drop, sym, refl, ap, ◌∙◌, inl, inr, arith, rules}
+use Rattle.std.proofs.Common.{◌≡◌, ℕ, ◌+◌, ◌-◌, ◌/◌, ◌%◌, ◌^◌, ◌<◌, ◌≤◌, ◌⊎◌, List, [], ◌∷◌, ◌++◌, length, get_or, take, drop, sym, refl, ap, ◌∙◌, inl, inr, arith, rules}
 use native.Mathlib.Nat.{div-div-eq-div-mul}
-use borrow.Rule.Slice.PartMut.{put_mid}
-use Rattle.std.proofs.lemmas.List.{get_or-drop, length-take, length-take-le, length-drop, take_at, drop_at, drop-drop, places, same_lists, get_or-take, get_or_append_left, get_or-append_right}
+use Rattle.std.specs.Int.{from_le_bytes, w32, w64}
+use Rattle.std.proofs.lemmas.List.{get_or-drop, length-take, length-take-le, length-drop, take_at, drop_at, places, same_lists, get_or-take, get_or_append_left, get_or-append_right}
 use Rattle.std.proofs.lemmas.Bool.{cases_lt}
 use Rattle.model.specs.Bytes.{four}
 use Rattle.flood.specs.Sent.{sends_code}
 use Rattle.amounts.specs.Row.{four_bytes, eight_bytes, eight, row_bytes, row_start, row_part, bytes_of, put_row, RowsReadBack}
 
--- the number in the four bytes from a place on, by its bytes
-pub four_from : (xs : List ℕ) (k : ℕ) → four (drop k xs) ≡ get_or xs k 0 + get_or xs (k + 1) 0 * 256 + get_or xs (k + 2) 0 * 65536 + get_or xs (k + 3) 0 * 16777216
-unfolding four
-four_from xs k =
-    let a : get_or (drop k xs) 0 0 ≡ get_or xs k 0 = get_or-drop k xs 0 0 ∙ ap (λ i. get_or xs i 0) (omega arith) in
-    let b = get_or-drop k xs 1 0 in
-    let c = get_or-drop k xs 2 0 in
-    let d = get_or-drop k xs 3 0 in
-    omega arith
+-- a byte of a part of the first m is that byte of the whole
+front_byte : (xs : List ℕ) (k m n i : ℕ) → i < n → k + n ≤ m → get_or (take n (drop k xs)) i 0 ≡ get_or (drop k (take m xs)) i 0
+front_byte xs k m n i a b =
+    get_or-take n (drop k xs) i 0 a ∙ (get_or-drop k xs i 0 ∙ sym (get_or-drop k (take m xs) i 0 ∙ get_or-take m xs (k + i) 0 (omega arith)))
 
-pub eight_from : (xs : List ℕ) (k : ℕ) →
-    eight (drop k xs) ≡
-    get_or xs k 0 + get_or xs (k + 1) 0 * 256 + get_or xs (k + 2) 0 * 65536 + get_or xs (k + 3) 0 * 16777216 + get_or xs (k + 4) 0 * 4294967296 +
-    get_or xs (k + 5) 0 * 1099511627776 + get_or xs (k + 6) 0 * 281474976710656 + get_or xs (k + 7) 0 * 72057594037927936
+-- so a number read from the part is the number that stands there
+pub four_part : (xs : List ℕ) (k m : ℕ) → k + 4 ≤ m → from_le_bytes w32 (take 4 (drop k xs)) ≡ four (drop k (take m xs))
 unfolding four
-eight_from xs k =
-    let low = four_from xs k in
-    let a = get_or-drop 4 (drop k xs) 0 0 ∙ get_or-drop k xs 4 0 in
-    let b = get_or-drop 4 (drop k xs) 1 0 ∙ get_or-drop k xs 5 0 in
-    let c = get_or-drop 4 (drop k xs) 2 0 ∙ get_or-drop k xs 6 0 in
-    let d = get_or-drop 4 (drop k xs) 3 0 ∙ get_or-drop k xs 7 0 in
-    omega arith
+four_part xs k m a =
+    let byte = front_byte xs k m 4 in
+    omega (arith, byte 0 (omega arith) a, byte 1 (omega arith) a, byte 2 (omega arith) a, byte 3 (omega arith) a)
+
+pub eight_part : (xs : List ℕ) (k m : ℕ) → k + 8 ≤ m → from_le_bytes w64 (take 8 (drop k xs)) ≡ eight (drop k (take m xs))
+unfolding four
+eight_part xs k m a =
+    let byte = front_byte xs k m 8 in
+    let high : (i : ℕ) → get_or (drop 4 (drop k (take m xs))) i 0 ≡ get_or (drop k (take m xs)) (4 + i) 0 = λ i. get_or-drop 4 (drop k (take m xs)) i 0 in
+    omega (
+      arith,
+      byte 0 (omega arith) a,
+      byte 1 (omega arith) a,
+      byte 2 (omega arith) a,
+      byte 3 (omega arith) a,
+      high 0 ∙ sym (byte 4 (omega arith) a),
+      high 1 ∙ sym (byte 5 (omega arith) a),
+      high 2 ∙ sym (byte 6 (omega arith) a),
+      high 3 ∙ sym (byte 7 (omega arith) a),
+    )
 
 -- a number is read as it was written, as far as the bytes hold it
 four_back : (v : ℕ) → four (four_bytes v) ≡ v % 4294967296
@@ -73,16 +79,6 @@ eight_bytes_are v =
     let b = div-div-eq-div-mul v 4294967296 65536 in
     let c = div-div-eq-div-mul v 4294967296 16777216 in
     rw (a, b, c) refl
-
--- a part of a table written over
-pub row_over : (t bs : List ℕ) (s c : ℕ) → s ≡ row_start c → put_mid s (s + 20 - s) t bs ≡ put_row t c bs
-row_over t bs s c e =
-    let n : s + 20 - s ≡ 20 = omega arith in
-    rw (n, e) (ap (λ xs. take (row_start c) t ++ (bs ++ xs)) (drop-drop 20 (row_start c) t))
-
--- a part of a table read
-pub row_from : (t : List ℕ) (s c : ℕ) → s ≡ row_start c → take (s + 20 - s) (drop s t) ≡ row_part t c
-row_from t s c e = let n : s + 20 - s ≡ 20 = omega arith in rw (n, e) refl
 
 -- a table with another row: that row, and the others
 this_row : (t bs : List ℕ) (c : ℕ) → row_start c + 20 ≤ length t → length bs ≡ 20 → row_part (put_row t c bs) c ≡ bs

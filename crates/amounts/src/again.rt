@@ -19,6 +19,7 @@ fn keep_levels(levels: &[u32], before: &mut [u64])
     requires { length before.old ≡ length levels.now }
     ensures { before.new ≡ levels.now }
 {
+    // Not by a zip: of a slice that is lent to a zip, the check knows the length afterwards, and no entry.
     for (c, kept) in before.iter_mut().enumerate() {
         *kept = u64::from(levels[c]);
     }
@@ -46,6 +47,7 @@ pub fn drain_again(model: &Model<'_>, slices: &mut Slices<'_>) -> Result<Drained
 {
     let n = model.cells() as usize;
     check_room(n, slices)?;
+    // Each slice by a name of its own: the check does not follow two fields that are lent at once.
     let levels = &mut *slices.levels;
     let flow = &mut *slices.flow;
     let amounts = &mut *slices.amounts;

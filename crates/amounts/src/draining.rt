@@ -63,6 +63,7 @@ pub fn drain_model(model: &Model<'_>, slices: &mut Slices<'_>) -> Result<Drained
 {
     check_room(model.cells() as usize, slices)?;
     let looks = flood(model, slices.levels, slices.flow, slices.work)?;
+    // Each slice by a name of its own: the check does not follow two fields that are lent at once.
     let flow = &mut *slices.flow;
     let amounts = &mut *slices.amounts;
     let work = &mut *slices.work;
