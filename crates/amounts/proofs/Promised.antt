@@ -1,5 +1,5 @@
 -- What draining a model leaves and answers, from what the flood wrote.
-use Rattle.std.proofs.Common.{◌≡◌, ℕ, ◌*◌, ◌<◌, ◌≤◌, List, ◌++◌, length, take, drop, Some, None, sym, refl, ap, ◌∙◌, arith, lt-ltb}
+use Rattle.std.proofs.Common.{◌≡◌, ℕ, ◌*◌, ◌<◌, ◌≤◌, List, ◌++◌, length, take, drop, Some, None, sym, refl, ap, ◌∙◌, ap₂, arith, lt-ltb}
 use Rattle.std.proofs.lemmas.List.FromFn.{length-map-range_with_len}
 use Rattle.std.proofs.lemmas.List.{take_at, drop_at}
 use Rattle.std.proofs.lemmas.Bool.Decides.{nat_tests}
@@ -21,20 +21,6 @@ use Rattle.amounts.proofs.Accumulating.{rule_keeps_length, rule_adds_up, rule_st
 use Rattle.amounts.proofs.Carrying.{only_amounts, nothing_lost}
 use Rattle.amounts.proofs.Passes.{ordered, rain_low}
 
--- slices that are long enough
-pub record Room (n : ℕ) (s : Contents) : Type 0 where
-  pub of_levels : n ≤ length s.levels
-  pub of_flow : n ≤ length s.flow
-  pub of_amounts : n ≤ length s.amounts
-  pub of_work : 3 * n ≤ length s.work
-
-pub room_for : (n : ℕ) (s : Contents) → None ≡ room_fault n s → Room n s
-room_for n s e = record { of_levels = grind (arith, nat_tests); of_flow = grind (arith, nat_tests); of_amounts = grind (arith, nat_tests); of_work = grind (arith, nat_tests) }
-
--- the flood refuses none of them
-pub not_short : (n k : ℕ) (s : Contents) (e : Refusal) → k ≡ n → Room k s → Some e ≡ too_short n s.levels s.flow s.work → ⊥
-not_short n k s e same r short = grind (arith, nat_tests, r.of_levels, r.of_flow, r.of_work)
-
 module _ (bs : List ℕ) (wf : WellFormed bs) where
   pub long_amounts : length (table_amounts bs) ≡ count bs
   long_amounts = rule_keeps_length (table_of bs).flow (table_of bs).order (rains (land bs)) (count bs) 0 ∙ length-map-range_with_len (land bs).rain 0 (count bs)
@@ -53,15 +39,21 @@ module _ (bs : List ℕ) (wf : WellFormed bs) where
       let in_amounts = lt-ltb c (length (table_amounts bs)) (omega (arith, a, long_amounts)) in
       rw (in_flow, in_amounts) refl
 
-  pub all_leave : all_leaves (table_of bs).flow (table_amounts bs) (length (table_of bs).flow) ≡ all_off (flow_in bs) (amount_in bs) (count bs)
+  all_leave : all_leaves (table_of bs).flow (table_amounts bs) (length (table_of bs).flow) ≡ all_off (flow_in bs) (amount_in bs) (count bs)
   all_leave = ap (all_leaves (table_of bs).flow (table_amounts bs)) (table_long bs wf).flow ∙ sum_same (leaves_at (table_of bs).flow (table_amounts bs)) (leaving (flow_in bs) (amount_in bs)) (count bs) leaves_is
 
   pub carried : Carried (land bs) (flow_in bs) (amount_in bs)
   carried = rule_adds_up (land bs) (flow_in bs) (table_of bs).flow (table_of bs).order (ordered bs wf)
 
+  -- as the program reads them from slices that may be longer
+  pub leaves_read : (flow amounts front : List ℕ) (k : ℕ) → k ≡ count bs → take (count bs) flow ≡ (table_of bs).flow → front ≡ table_amounts bs →
+      all_leaves (take k flow) (take k (front ++ drop k amounts)) (length (take k flow)) ≡ all_off (flow_in bs) (amount_in bs) (count bs)
+  leaves_read flow amounts front k e f w =
+      ap₂ (λ x y. all_leaves x y (length x)) (ap (λ m. take m flow) e ∙ f) (amounts_front amounts front k e w) ∙ all_leave
+
   -- no more than all the rain
-  pub leaves_low : all_leaves (table_of bs).flow (table_amounts bs) (length (table_of bs).flow) ≤ 160000000000
-  leaves_low = omega (arith, all_leave, nothing_lost (land bs) (flow_in bs) (amount_in bs) (ordered bs wf).falling carried, rain_low bs wf)
+  pub leaves_low : all_off (flow_in bs) (amount_in bs) (count bs) ≤ 160000000000
+  leaves_low = omega (arith, nothing_lost (land bs) (flow_in bs) (amount_in bs) (ordered bs wf).falling carried, rain_low bs wf)
 
   -- what the amounts need of what the flood wrote
   pub pourable : (ls fl wk ls' fl' wk' : List ℕ) → Written (table_of bs) (count bs) ls fl wk ls' fl' wk' →
