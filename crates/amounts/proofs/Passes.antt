@@ -6,11 +6,14 @@ use Rattle.std.proofs.lemmas.List.FromFn.{length-map-range_with_len}
 use Rattle.model.specs.Bytes.{count}
 use Rattle.model.specs.Terrain.{terrain, land}
 use Rattle.model.specs.WellFormed.{WellFormed}
+use Rattle.flood.specs.Fair.{sides_of}
 use Rattle.flood.specs.Flooded.{table_of}
 use Rattle.flood.specs.Right.{Right}
 use Rattle.flood.specs.Run.{none, flow_of}
 use Rattle.flood.proofs.Models.{models_right}
-use Rattle.flood.proofs.Turns.{sound, small, table_long}
+use Rattle.flood.proofs.Kept.{Long}
+use Rattle.flood.proofs.Reaching.{reached}
+use Rattle.flood.proofs.Turns.{sound, fair, small}
 use Rattle.amounts.specs.Accumulation.{OrderedFlow, passed_on, accumulated, rains}
 use Rattle.amounts.specs.Amounts.{all_rain}
 use Rattle.amounts.proofs.Accumulating.{run_ordered, rule_keeps_length, rule_sums_fit}
@@ -23,6 +26,10 @@ pub record Passable (flow amounts : List ℕ) (c : ℕ) : Type 0 where
   pub sum : eqb (get_or flow c 0) none ≡ false → (get_or flow c 0 < length amounts) × (get_or amounts (get_or flow c 0) 0 + get_or amounts c 0 < 2 ^ 64)
 
 module _ (bs : List ℕ) (wf : WellFormed bs) where
+  -- the lists of the table are as long as the land has cells
+  pub table_long : Long (count bs) (table_of bs)
+  table_long = (reached (land bs) (sides_of (terrain bs)) (fair bs wf) (count bs) (omega arith)).1.good.frame.long
+
   right : Right (land bs) (table_of bs)
   right = models_right (terrain bs) (sound bs wf)
 
@@ -46,7 +53,7 @@ module _ (bs : List ℕ) (wf : WellFormed bs) where
       let long : length amounts ≡ count bs = ap length e ∙ (rule_keeps_length s.flow s.order (rains (land bs)) done (suc k) ∙ length-map-range_with_len (land bs).rain 0 (count bs)) in
       let fits = rule_sums_fit (land bs) (flow_of s) s.flow s.order o done k (omega arith) in
       record {
-        in_flow = omega (arith, inside, (table_long bs wf).flow);
+        in_flow = omega (arith, inside, table_long.flow);
         in_amounts = omega (arith, inside, long);
         sum = λ on_land.
             let off = sym (o.coded.offs c inside) ∙ on_land in (

@@ -1,25 +1,21 @@
 -- What draining a model leaves and answers, from what the flood wrote.
-use Rattle.std.proofs.Common.{◌≡◌, ℕ, ◌*◌, ◌<◌, ◌≤◌, List, ◌++◌, length, take, drop, Some, None, sym, refl, ap, ◌∙◌, ap₂, arith, lt-ltb}
+use Rattle.std.proofs.Common.{◌≡◌, ℕ, ◌<◌, ◌≤◌, List, ◌++◌, length, take, drop, sym, refl, ap, ◌∙◌, ap₂, arith, lt-ltb}
 use Rattle.std.proofs.lemmas.List.FromFn.{length-map-range_with_len}
 use Rattle.std.proofs.lemmas.List.{take_at, drop_at}
-use Rattle.std.proofs.lemmas.Bool.Decides.{nat_tests}
-use Rattle.model.specs.declared.refusal.Refusal.{Refusal}
 use Rattle.model.specs.Bytes.{count}
 use Rattle.model.specs.Slices.{Contents}
 use Rattle.model.specs.Terrain.{land}
 use Rattle.model.specs.WellFormed.{WellFormed}
-use Rattle.flood.specs.Flooded.{too_short, table_of, Written, Flooded}
+use Rattle.flood.specs.Flooded.{table_of, Written, Flooded}
 use Rattle.flood.proofs.Sums.{sum_same}
-use Rattle.flood.proofs.Turns.{table_long}
 use Rattle.amounts.specs.declared.answer.Drained.{Drained}
 use Rattle.amounts.specs.Accumulation.{rains}
-use Rattle.amounts.specs.Draining.{room_fault}
 use Rattle.amounts.specs.Amounts.{Carried, all_rain, leaving, all_off}
 use Rattle.amounts.specs.Passing.{leaves_at, all_leaves, table_amounts}
 use Rattle.amounts.specs.Promise.{flow_in, amount_in, Promise}
 use Rattle.amounts.proofs.Accumulating.{rule_keeps_length, rule_adds_up, rule_stays_below}
 use Rattle.amounts.proofs.Carrying.{only_amounts, nothing_lost}
-use Rattle.amounts.proofs.Passes.{ordered, rain_low}
+use Rattle.amounts.proofs.Passes.{table_long, ordered, rain_low}
 
 module _ (bs : List ℕ) (wf : WellFormed bs) where
   pub long_amounts : length (table_amounts bs) ≡ count bs

@@ -7,9 +7,8 @@ use Rattle.model.specs.Bytes.{count}
 use Rattle.model.specs.Terrain.{land}
 use Rattle.model.proofs.Taken.{formed}
 use Rattle.flood.specs.Flooded.{table_of}
-use Rattle.flood.proofs.Turns.{table_long}
 use Rattle.amounts.specs.Accumulation.{passed_on, accumulated, rains}
-use Rattle.amounts.proofs.Passes.{Passable, passable, from_end, pass_more}
+use Rattle.amounts.proofs.Passes.{table_long, Passable, passable, from_end, pass_more}
 use Rattle.amounts.proofs.passing.carry.Goals as goal
 
 pub loop-cell-init : goal.loop-cell-init
