@@ -19,6 +19,7 @@ use model::units::Cell;
 use queue::{Entry, Queue};
 
 // How far a flood has come: what is known of each cell, how many cells have places, and the looks made so far.
+// Lists side by side and a count beside them, since the caller lends the memory as slices of plain numbers.
 #[derive(Drop)]
 struct Run<'a> {
     levels: &'a mut [u32],

@@ -4,14 +4,14 @@ ghost use Rattle.flood.specs.Sent.{sends_code, sends_of};
 
 use model::units::Cell;
 
-// Off the land, or to a cell next to it.
+// Off the land, or to a cell next to it. No Option of a cell: the project's rules ask for an enum that names both.
 #[derive(Clone, Copy, PartialEq, Eq, Debug)]
 pub enum Sends {
     Off,
     To(Cell),
 }
 
-// The code of off, which is no cell's number; in a slice of levels it stands for none yet.
+// The code of off, which is no cell's number; in a slice of levels it stands for none yet. Lent slices hold plain numbers.
 pub const NONE: u32 = 4_294_967_295;
 
 // As it is coded in a lent slice.
