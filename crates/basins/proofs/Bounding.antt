@@ -1,6 +1,6 @@
 -- On any list a walk over as many cells as there are is long enough: it comes to no cell twice before it ends.
 use Rattle.std.proofs.Common.{◌≡◌, ℕ, zero, suc, ◌+◌, ◌<◌, Bool, true, false, cond, not, ◌||◌, eqb, List, get_or, is_some, Some, None, Option, sym, refl, ap, ◌∙◌, inl, inr, arith}
-use Rattle.std.proofs.lemmas.Bool.{cases_Bool, lt-ltb}
+use Rattle.std.proofs.lemmas.Bool.{cases_Bool, lt-ltb, or_from}
 use Rattle.std.proofs.lemmas.Bool.Decides.{nat_tests}
 use Rattle.flood.specs.Levels.{Flow}
 use Rattle.flood.specs.Run.{none}
@@ -12,13 +12,11 @@ use Rattle.basins.proofs.Walking.{rank, rank_small, rank_falls}
 
 module _ (flow : List ℕ) (n : ℕ) where
   ends_off : (k c e : ℕ) → walked flow n k c ≡ Some e → (e < n) × (get_or flow e 0 ≡ none)
-  unfolding walked
   ends_off zero c e w = grind arith
   ends_off (suc k) c e w = let ih = ends_off k (get_or flow c 0) e in grind (arith, nat_tests)
 
   -- a walk that found an exit finds it in more steps too
   longer : (k c e : ℕ) → walked flow n k c ≡ Some e → walked flow n (suc k) c ≡ Some e
-  unfolding walked
   longer zero c e w = grind arith
   longer (suc k) c e w = let ih = longer k (get_or flow c 0) e in grind (arith, nat_tests)
 
@@ -32,17 +30,14 @@ module _ (flow : List ℕ) (n m : ℕ) where
   found j c = is_some (walked flow n j c)
 
   found_cell : (j c : ℕ) → found j c ≡ true → c < n
-  unfolding walked
   found_cell zero c i = grind arith
   found_cell (suc j) c i = grind (arith, nat_tests)
 
   -- a walk of one cell more
   onward : (j c : ℕ) → c < n → eqb (get_or flow c 0) none ≡ false → walked flow n (suc j) c ≡ walked flow n j (get_or flow c 0)
-  unfolding walked
   onward j c a o = rw (lt-ltb c n a, o)
 
   ended : (j c : ℕ) → c < n → eqb (get_or flow c 0) none ≡ true → walked flow n (suc j) c ≡ Some c
-  unfolding walked
   ended j c a o = rw (lt-ltb c n a, o)
 
   settled : (j c : ℕ) → found j c ≡ true → walked flow n (suc j) c ≡ walked flow n j c
@@ -66,7 +61,6 @@ module _ (flow : List ℕ) (n m : ℕ) where
   }
 
   part_acyclic : Acyclic n part
-  unfolding walked
   part_acyclic = record {
     inside = λ c a o. found_cell m (get_or flow c 0) (grind (arith, onward m c a));
     nearer = λ c a o.
@@ -88,7 +82,7 @@ module _ (flow : List ℕ) (n m : ℕ) where
         | inr o ↦
             let there : found m t ≡ true = sym (ap is_some (onward m c a o)) ∙ i in
             let again = settled m t there in
-            let fewer = rank_falls n part part_acyclic c a (rw (o, i) refl) in
+            let fewer = rank_falls n part part_acyclic c a (or_from _ _ o (ap not i)) in
             onward j c a o ∙ (enough j t (found_cell m t there) (ap is_some again ∙ there) (omega arith) ∙ (again ∙ sym (onward m c a o)))
       ]
 
@@ -96,7 +90,6 @@ pub walk_ends_off : WalkEndsOff
 walk_ends_off flow n c e w = ends_off flow n n c e w
 
 pub walk_long_enough : WalkLongEnough
-unfolding walked
 walk_long_enough flow n zero c e w = grind arith
 walk_long_enough flow n (suc m) c e w =
     let i : found flow n m (suc m) c ≡ true = ap is_some w in

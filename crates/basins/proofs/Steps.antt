@@ -1,5 +1,5 @@
 -- Steps of the walk along a flow, as the program takes them, and what the pass leaves in the slice of a model.
-use Rattle.std.proofs.Common.{◌≡◌, ℕ, suc, ◌+◌, ◌-◌, ◌*◌, ◌<◌, ◌≤◌, true, false, eqb, List, ◌++◌, length, get_or, take, drop, Some, None, Option, refl, ap, ◌∙◌, subst, ap₂, arith, length-drop, length-take-le}
+use Rattle.std.proofs.Common.{◌≡◌, ℕ, suc, ◌+◌, ◌-◌, ◌*◌, ◌<◌, ◌≤◌, true, false, cond, eqb, ltb, List, ◌++◌, length, get_or, take, drop, Some, None, Option, refl, ap, ◌∙◌, subst, ap₂, arith, length-drop, length-take-le}
 use Rattle.std.proofs.lemmas.List.{get_or_append_left}
 use Rattle.std.proofs.lemmas.Bool.{cases_Bool, lt-ltb}
 use Rattle.std.proofs.lemmas.Bool.Decides.{nat_tests}
@@ -24,31 +24,13 @@ sends_on code next e = let i = cases_Bool (eqb code none) in grind (arith, nat_t
 pub sends_off : (code : ℕ) → Off ≡ sends_of code → eqb code none ≡ true
 sends_off code e = let i = cases_Bool (eqb code none) in grind (arith, nat_tests)
 
--- a walk from cell `at` with n - k cells still to go finds w
-module _ (flow : List ℕ) (n k at : ℕ) (w : Option ℕ) (e : w ≡ walked flow n (n - k) at) where
-  begins : k < n → w ≡ walked flow n (suc (n - (k + 1))) at
-  begins a = let left : n - k ≡ suc (n - (k + 1)) = omega arith in e ∙ ap (λ j. walked flow n j at) left
+-- the rest of a walk after k cells: one cell more, and none where it has come to its end
+pub walk_more : (flow : List ℕ) (n k at : ℕ) → k < n →
+    walked flow n (n - k) at ≡ cond (ltb at n) (cond (eqb (get_or flow at 0) none) (Some at) (walked flow n (n - (k + 1)) (get_or flow at 0))) None
+walk_more flow n k at a = let left : n - k ≡ suc (n - (k + 1)) = omega arith in ap (λ j. walked flow n j at) left
 
-  pub walk_on : (j : ℕ) → j ≡ at → k < n → at < n → (next : Cell) → To next ≡ sends_of (get_or flow j 0) → w ≡ walked flow n (n - (k + 1)) next.0
-  unfolding walked
-  walk_on j i a b next s =
-      let on = sends_on (get_or flow j 0) next s in
-      let t = subst (λ (x : ℕ). (eqb (get_or flow x 0) none ≡ false) × (next.0 ≡ get_or flow x 0)) i on in
-      begins a ∙ rw (lt-ltb at n b, t.0, t.1) refl
-
-  pub walk_off : (j : ℕ) → j ≡ at → k < n → at < n → Off ≡ sends_of (get_or flow j 0) → w ≡ Some at
-  unfolding walked
-  walk_off j i a b s =
-      let t = subst (λ (x : ℕ). eqb (get_or flow x 0) none ≡ true) i (sends_off (get_or flow j 0) s) in
-      begins a ∙ rw (lt-ltb at n b, t) refl
-
-  pub walk_out : k < n → n ≤ at → w ≡ None
-  unfolding walked
-  walk_out a b = begins a ∙ grind (arith, nat_tests)
-
-  pub walk_over : n ≤ k → w ≡ None
-  unfolding walked
-  walk_over a = let left : n - k ≡ 0 = omega arith in e ∙ ap (λ j. walked flow n j at) left
+pub walk_over : (flow : List ℕ) (n k at : ℕ) → n ≤ k → walked flow n (n - k) at ≡ None
+walk_over flow n k at a = let left : n - k ≡ 0 = omega arith in ap (λ j. walked flow n j at) left
 
 module _ (bs : List ℕ) (wf : WellFormed bs) (flow work exits : List ℕ) (fits : count bs ≤ length exits) where
   abbrev told : List ℕ

@@ -31,7 +31,6 @@ rank_falls n f p c a o =
     (λ x b'. grind (arith, nat_tests)) (p.inside c a o) (grind (arith, nat_tests))
 
 walk : (n : ℕ) (f : Flow) (flow : List ℕ) → Coded n f flow → Acyclic n f → (k c : ℕ) → c < n → rank n f c < k → walked flow n k c ≡ Some (exit f c)
-unfolding walked
 walk n f flow q p zero c a b = absurd (omega arith)
 walk n f flow q p (suc k) c a b = elim (cases_Bool (f.off c)) [
   | inl o ↦ rw (lt-ltb c n a, q.offs c a ∙ o) (ap Some (sym (along_off f (f.far c) c o)))
@@ -44,14 +43,12 @@ pub walk_finds_exit : WalkFindsExit
 walk_finds_exit n f flow q p c a = walk n f flow q p n c a (rank_small n f c a)
 
 pub pass_keeps_length : PassKeepsLength
-unfolding exits_after exit_told
 pass_keeps_length flow order xs zero = refl
 pass_keeps_length flow order xs (suc k) = length-set _ _ _ ∙ pass_keeps_length flow order xs k
 
 -- after k places every cell with one of them has its exit
 pass : (n : ℕ) (f : Flow) (flow order xs : List ℕ) → OrderedFlow n f flow order → n ≤ length xs → (k : ℕ) → k ≤ n →
     (c : ℕ) → c < n → f.far c < k → get_or (exits_after flow order xs k) c 0 ≡ exit f c
-unfolding exits_after exit_told
 pass n f flow order xs p long zero le c a b = absurd (omega arith)
 pass n f flow order xs p long (suc k) le c a b =
     let before = exits_after flow order xs k in
@@ -79,5 +76,4 @@ pass_finds_exits n f flow order xs p long c a = pass n f flow order xs p long n 
 -- one place more, as the program counts
 pub pass_more : (flow order first exits exits' : List ℕ) (k : ℕ) → exits ≡ exits_after flow order first k → exits' ≡ exit_told flow (get_or order k 0) exits →
     exits' ≡ exits_after flow order first (k + 1)
-unfolding exits_after
 pass_more flow order first exits exits' k e f = f ∙ (ap (exit_told flow (get_or order k 0)) e ∙ ap (exits_after flow order first) (sym (add-one k)))

@@ -7,7 +7,7 @@ use Rattle.amounts.specs.Accumulation.{Coded, OrderedFlow}
 use Rattle.basins.specs.Exits.{exit}
 
 -- the first cell that sends off, of at most k from c on; nothing where there is none among them, or the walk comes to no cell of n
-unfoldable pub walked : List ℕ → (n k c : ℕ) → Option ℕ
+abbrev pub walked : List ℕ → (n k c : ℕ) → Option ℕ
 walked flow n zero c = None
 walked flow n (suc k) c = cond (nat_lt c n) (cond (slice_index flow c == none) (Some c) (walked flow n k (slice_index flow c))) None
 
@@ -20,11 +20,11 @@ abbrev pub exit_by : (flow exits : List ℕ) → ℕ → ℕ
 exit_by flow exits c = cond (slice_index flow c == none) c (slice_index exits (slice_index flow c))
 
 -- cell c gets its exit
-unfoldable pub exit_told : List ℕ → ℕ → List ℕ → List ℕ
+abbrev pub exit_told : List ℕ → ℕ → List ℕ → List ℕ
 exit_told flow c exits = slice_set exits c (exit_by flow exits c)
 
 -- the exits after the first k places, from any list on
-unfoldable pub exits_after : (flow order exits : List ℕ) → ℕ → List ℕ
+abbrev pub exits_after : (flow order exits : List ℕ) → ℕ → List ℕ
 exits_after flow order exits zero = exits
 exits_after flow order exits (suc k) = exit_told flow (slice_index order k) (exits_after flow order exits k)
 

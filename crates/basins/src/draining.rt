@@ -27,16 +27,12 @@ pub fn drain_basins(
 {
     let n = model.cells() as usize;
     if exits.len() < n {
-        return Err(Refused::Basins(Short::Exits));
+        return Err(Short::Exits.into());
     }
     if cells.len() < n {
-        return Err(Refused::Basins(Short::Cells));
+        return Err(Short::Cells.into());
     }
-    match drain_model(model, levels, flow, amounts, work) {
-        Err(refusal) => Err(Refused::Drain(refusal)),
-        Ok(drained) => match find_basins(model, flow, work, exits, cells) {
-            Err(short) => Err(Refused::Basins(short)),
-            Ok(()) => Ok(drained),
-        },
-    }
+    let drained = drain_model(model, levels, flow, amounts, work)?;
+    find_basins(model, flow, work, exits, cells)?;
+    Ok(drained)
 }

@@ -24,6 +24,7 @@ fn count_one(cells: &mut [u32], at: usize)
     requires { slice_index cells.old at < 160000 }
     ensures { cells.new ≡ one_more cells.old at }
 {
+    // By index, since a proof knows no element of a slice after get_mut.
     if at < cells.len() {
         cells[at] += 1;
     }
@@ -36,8 +37,8 @@ fn count_cells(exits: &[u32], cells: &mut [u32])
     ensures { cells.new ≡ cells_of exits.now }
 {
     cells.fill(0);
-    for c in 0..exits.len() {
-        count_one(cells, exits[c] as usize);
+    for exit in exits {
+        count_one(cells, *exit as usize);
     }
 }
 
@@ -46,14 +47,12 @@ pub fn basin_at(flow: &[u32], amounts: &[u64], cells: &[u32], cell: Cell) -> Opt
     ensures { result ≡ basin_at flow.now amounts.now cells.now cell.0 }
 {
     let at = cell.index();
-    if at >= flow.len() || at >= amounts.len() || at >= cells.len() {
-        return None;
-    }
-    match Sends::of_code(flow[at]) {
+    let (sends, amount, cells) = (*flow.get(at)?, *amounts.get(at)?, *cells.get(at)?);
+    match Sends::of_code(sends) {
         Sends::Off => Some(Basin {
             outlet: cell,
-            cells: cells[at],
-            amount: Amount(amounts[at]),
+            cells,
+            amount: Amount(amount),
         }),
         Sends::To(_) => None,
     }

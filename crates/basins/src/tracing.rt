@@ -1,5 +1,5 @@
 // Exits traced along the flow: that of one cell by a walk, and those of all cells in one pass along the order.
-ghost use Rattle.std.specs.Prelude.{◌≡◌, ◌≤◌, length, MatchResult, slice_index};
+ghost use Rattle.std.specs.Prelude.{◌≡◌, ◌≤◌, length, MatchResult};
 ghost use Rattle.std.specs.Option.{option_map};
 ghost use Rattle.std.specs.Result.{result_err};
 ghost use Rattle.model.specs.Bytes.{count};
@@ -13,23 +13,13 @@ use flood::sends::Sends;
 use model::land::Model;
 use model::units::Cell;
 
-// What stands at a place of a slice, 0 behind its end.
-fn word_at(words: &[u32], place: usize) -> u32
-    ensures { result ≡ slice_index words.now place }
-{
-    if place < words.len() { words[place] } else { 0 }
-}
-
 // The exit of a cell, on any flow: none where the way comes round again, or to a code that is no cell.
 pub fn exit_of(flow: &[u32], cell: Cell) -> Option<Cell>
     ensures { option_map number result ≡ exit_of flow.now (length flow.now) cell.0 }
 {
     let mut at = cell;
     for _step in 0..flow.len() {
-        if at.index() >= flow.len() {
-            return None;
-        }
-        match Sends::of_code(flow[at.index()]) {
+        match Sends::of_code(*flow.get(at.index())?) {
             Sends::Off => return Some(at),
             Sends::To(next) => at = next,
         }
@@ -37,13 +27,13 @@ pub fn exit_of(flow: &[u32], cell: Cell) -> Option<Cell>
     None
 }
 
-// A cell's exit: itself where it sends off, else the exit that is known of the cell that it sends to.
+// A cell's exit: itself where it sends off, else the exit that is known of the cell that it sends to. Behind the end of a slice stands 0.
 fn exit_by(flow: &[u32], exits: &[u32], cell: u32) -> u32
     ensures { result ≡ exit_by flow.now exits.now cell }
 {
-    match Sends::of_code(word_at(flow, cell as usize)) {
+    match Sends::of_code(flow.get(cell as usize).copied().unwrap_or(0)) {
         Sends::Off => cell,
-        Sends::To(next) => word_at(exits, next.index()),
+        Sends::To(next) => exits.get(next.index()).copied().unwrap_or(0),
     }
 }
 
@@ -62,8 +52,8 @@ fn tell_exits(flow: &[u32], order: &[u64], exits: &mut [u32])
     requires { length exits.old ≤ 160000 }
     ensures { exits.new ≡ exits_after flow.now order.now exits.old (length order.now) }
 {
-    for place in 0..order.len() {
-        tell_exit(flow, exits, order[place] as usize);
+    for cell in order {
+        tell_exit(flow, exits, *cell as usize);
     }
 }
 

@@ -3,5 +3,5 @@ use Rattle.basins.specs.Parting.{cells_at}
 use Rattle.basins.proofs.parting.count_cells.Given as goal
 
 -- the cells before this one are counted
-abbrev pub invariant-loop-c : goal.invariant-loop-c
-invariant-loop-c l = (e : ℕ) → e < length l.cells → get_or l.cells e 0 ≡ cells_at l.exits e l.c
+abbrev pub invariant-loop-exit : goal.invariant-loop-exit
+invariant-loop-exit l = (e : ℕ) → e < length l.cells → get_or l.cells e 0 ≡ cells_at l.exits e l.exit-index
