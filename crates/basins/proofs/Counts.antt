@@ -1,11 +1,11 @@
 -- Cells counted at their exits, as the program counts them.
-use Rattle.std.proofs.Common.{◌≡◌, ℕ, ◌+◌, ◌<◌, ◌≤◌, cond, eqb, List, length, get_or, sym, ap, ◌∙◌, inl, inr, add-one, arith}
+use Rattle.std.proofs.Common.{◌≡◌, ℕ, ◌<◌, ◌≤◌, cond, eqb, List, length, get_or, ap, ◌∙◌, inl, inr, arith}
 use Rattle.std.proofs.lemmas.List.FromFn.{fill_by_all}
-use Rattle.std.proofs.lemmas.List.{length-set, get_or-set_same, get_or-set_other, get_or_past}
-use Rattle.std.proofs.lemmas.Bool.{cases_eq, cases_lt}
+use Rattle.std.proofs.lemmas.List.{get_or_past}
+use Rattle.std.proofs.lemmas.Bool.{cases_lt}
 use Rattle.std.proofs.lemmas.Bool.Decides.{nat_tests}
 use Rattle.amounts.proofs.Sums.{sum_limit}
-use Rattle.basins.specs.Parting.{one_more, cells_at, cells_of}
+use Rattle.basins.specs.Parting.{cells_at, cells_of}
 
 -- the first c cells are counted
 abbrev pub Counted : (exits cells : List ℕ) → ℕ → Type 0
@@ -16,18 +16,6 @@ count_low exits cells c x counted = elim (cases_lt x (length cells)) [
   | inl a ↦ omega (arith, counted x a, sum_limit (λ k. cond (eqb (get_or exits k 0) x) 1 0) c 1 (λ k b. grind (arith, nat_tests)))
   | inr a ↦ omega (arith, get_or_past cells x 0 a)
 ]
-
-pub count_more : (exits cells cells' : List ℕ) (c : ℕ) → Counted exits cells c → cells' ≡ one_more cells (get_or exits c 0) → Counted exits cells' (c + 1)
-count_more exits cells cells' c counted w e a =
-    let x = get_or exits c 0 in
-    let v = get_or cells x 0 + 1 in
-    let in_it : e < length cells = omega (arith, ap length w, length-set cells x v) in
-    let old = counted e in_it in
-    let more : cells_at exits e (c + 1) ≡ cond (eqb x e) 1 0 + cells_at exits e c = ap (cells_at exits e) (add-one c) in
-    ap (λ xs. get_or xs e 0) w ∙ (elim (cases_eq e x) [
-      | inl i ↦ let new = get_or-set_same cells x v 0 in grind (arith, nat_tests)
-      | inr i ↦ let same = get_or-set_other cells x e v 0 i in grind (arith, nat_tests)
-    ] ∙ sym more)
 
 pub count_all : (exits cells : List ℕ) (c : ℕ) → c ≡ length exits → length cells ≡ length exits → Counted exits cells c → cells ≡ cells_of exits
 count_all exits cells c all long counted =

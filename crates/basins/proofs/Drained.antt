@@ -71,8 +71,7 @@ module _ (bs : List ℕ) (wf : WellFormed bs) where
       all_amounts = nothing_lost (land bs) f (amount_in bs) falling carried;
     }
 
-  pub basins_found : (flow work exits cells exits' front cells' : List ℕ) (k : ℕ) → n ≤ length exits' → Traced bs flow work exits exits' → k ≡ n →
-      front ≡ cells_of (take k exits') → cells' ≡ front ++ drop k cells → BasinsFound bs flow work exits cells exits' cells'
-  basins_found flow work exits cells exits' front cells' k fits t e w a =
-      let there : cells' ≡ cells_of (take n exits') ++ drop n cells = a ∙ (ap (λ x. x ++ drop k cells) w ∙ ap (λ x. cells_of (take x exits') ++ drop x cells) e) in
+  pub basins_found : (flow work exits cells exits' cells' : List ℕ) → n ≤ length exits' → Traced bs flow work exits exits' →
+      cells' ≡ cells_of (take n exits') ++ drop n cells → BasinsFound bs flow work exits cells exits' cells'
+  basins_found flow work exits cells exits' cells' fits t there =
       record { exits_there = t.written; cells_there = there; parted = λ h. parted exits' cells cells' fits (t.found h) there }

@@ -1,7 +1,7 @@
 -- Steps of the walk along a flow, as the program takes them, and what the pass leaves in the slice of a model.
-use Rattle.std.proofs.Common.{◌≡◌, ℕ, suc, ◌+◌, ◌-◌, ◌*◌, ◌<◌, ◌≤◌, true, false, cond, eqb, ltb, List, ◌++◌, length, get_or, take, drop, Some, None, Option, refl, ap, ◌∙◌, subst, ap₂, arith, length-drop, length-take-le}
+use Rattle.std.proofs.Common.{◌≡◌, ℕ, suc, ◌+◌, ◌-◌, ◌<◌, ◌≤◌, true, false, cond, eqb, ltb, List, length, get_or, take, drop, Some, None, ap, ◌∙◌, ap₂, arith, length-take-le}
 use Rattle.std.proofs.lemmas.List.{get_or_append_left}
-use Rattle.std.proofs.lemmas.Bool.{cases_Bool, lt-ltb}
+use Rattle.std.proofs.lemmas.Bool.{cases_Bool}
 use Rattle.std.proofs.lemmas.Bool.Decides.{nat_tests}
 use Rattle.model.specs.declared.units.Cell.{Cell}
 use Rattle.model.specs.Bytes.{count}
@@ -51,13 +51,3 @@ module _ (bs : List ℕ) (wf : WellFormed bs) (flow work exits : List ℕ) (fits
     written = w;
     found = λ h c a. ap (λ xs. get_or xs c 0) w ∙ (get_or_append_left told (drop (count bs) exits) 0 c (omega (arith, told_long)) ∙ told_exit h c a);
   }
-
--- the parts of the slices that the program hands on are those of n cells
-pub parts_told : (flow work exits front : List ℕ) (n i j k m : ℕ) → i ≡ n → j ≡ n → k ≡ n → m ≡ n → 2 * n ≤ length work →
-    front ≡ exits_after (take i flow) (take j (drop k work)) (take i exits) (length (take j (drop k work))) →
-    front ++ drop m exits ≡ exits_written n flow work exits
-parts_told flow work exits front n i j k m ei ej ek em fits e =
-    let order = ap₂ (λ x y. take x (drop y work)) ej ek in
-    let long : length (take n (drop n work)) ≡ n = length-take-le n (drop n work) (omega (arith, length-drop n work)) in
-    ap₂ (λ x y. x ++ drop y exits) (e ∙ (ap₂ (λ x o. exits_after (take x flow) o (take x exits) (length o)) ei order ∙
-    ap (exits_after (take n flow) (take n (drop n work)) (take n exits)) long)) em

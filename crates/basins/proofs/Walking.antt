@@ -1,5 +1,5 @@
 -- Walks along a list that says where cells send, and the pass along the order.
-use Rattle.std.proofs.Common.{◌≡◌, ℕ, zero, suc, ◌+◌, ◌<◌, ◌≤◌, false, cond, eqb, ltb, List, length, get_or, Some, sym, refl, ap, ◌∙◌, inl, inr, add-one, arith}
+use Rattle.std.proofs.Common.{◌≡◌, ℕ, zero, suc, ◌<◌, ◌≤◌, false, cond, eqb, ltb, List, length, get_or, Some, sym, refl, ap, ◌∙◌, inl, inr, arith}
 use Rattle.std.proofs.lemmas.List.{length-set, get_or-set_same, get_or-set_other}
 use Rattle.std.proofs.lemmas.Bool.{cases_Bool, cases_eq, lt-ltb}
 use Rattle.std.proofs.lemmas.Bool.Decides.{nat_tests}
@@ -10,7 +10,7 @@ use Rattle.flood.proofs.Sums.{sum_ones, sum_less}
 use Rattle.amounts.specs.Amounts.{Acyclic}
 use Rattle.amounts.specs.Accumulation.{Coded, OrderedFlow}
 use Rattle.basins.specs.Exits.{exit}
-use Rattle.basins.specs.Walks.{walked, exit_told, exits_after, WalkFindsExit, PassFindsExits, PassKeepsLength}
+use Rattle.basins.specs.Walks.{walked, exits_after, WalkFindsExit, PassFindsExits, PassKeepsLength}
 use Rattle.basins.proofs.Exits.{along_off, exit_step}
 
 -- how many cells are nearer to leaving than c
@@ -72,8 +72,3 @@ pass n f flow order xs p long (suc k) le c a b =
 
 pub pass_finds_exits : PassFindsExits
 pass_finds_exits n f flow order xs p long c a = pass n f flow order xs p long n (omega arith) c a (p.place c a)
-
--- one place more, as the program counts
-pub pass_more : (flow order first exits exits' : List ℕ) (k : ℕ) → exits ≡ exits_after flow order first k → exits' ≡ exit_told flow (get_or order k 0) exits →
-    exits' ≡ exits_after flow order first (k + 1)
-pass_more flow order first exits exits' k e f = f ∙ (ap (exit_told flow (get_or order k 0)) e ∙ ap (exits_after flow order first) (sym (add-one k)))
