@@ -36,10 +36,7 @@ fn is_off_right(model: &Model<'_>, table: &[u8], cell: Cell) -> bool
     requires whole { Whole (bytes_of model.now) table.now }
     ensures { result ≡ off_ok (land (bytes_of model.now)) (flow_from table.now) cell.0 }
 {
-    match row_of(table, cell).sends {
-        Sends::Off => model.leaves(cell),
-        Sends::To(_) => !model.leaves(cell),
-    }
+    (row_of(table, cell).sends == Sends::Off) == model.leaves(cell)
 }
 
 // Each cell sends off exactly where water may leave, else to a neighbour that has an earlier place.
@@ -120,9 +117,10 @@ fn sent(table: &[u8], from: Cell, to: Cell) -> Amount
     ensures { result.0 ≡ sends (flow_from table.now) (amount_at table.now) to.0 from.0 }
 {
     let row = row_of(table, from);
-    match row.sends {
-        Sends::To(cell) if cell == to => row.amount,
-        _ => Amount(0),
+    if row.sends == Sends::To(to) {
+        row.amount
+    } else {
+        Amount(0)
     }
 }
 
@@ -141,10 +139,9 @@ fn check_amounts(model: &Model<'_>, table: &[u8]) -> Result<(), Refusal>
             };
             sum += u128::from(sent(table, next, cell).0);
         }
-        if sum == u128::from(row_of(table, cell).amount.0) {
-            continue 'cells;
+        if sum != u128::from(row_of(table, cell).amount.0) {
+            return Err(Refusal::Amount(cell));
         }
-        return Err(Refusal::Amount(cell));
     }
     Ok(())
 }

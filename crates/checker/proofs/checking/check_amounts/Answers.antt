@@ -51,15 +51,13 @@ compared c =
 
 pub cells-preserved : goal.cells-preserved
 cells-preserved c =
-    let t = c.args.table.now in
-    let same : amount_at t c.cells.c ≡ c.sides.sum = omega (arith, c.if-sum-from.true, c.from.ensures, c.row_of.ensures.amount) in
+    let same : amount_at c.args.table.now c.cells.c ≡ c.sides.sum = omega arith in
     c.cells.invariant ∙ bad_passed _ _ _ (omega arith) (compared (goal.at.cells-preserved c).After-sides ∙ eq-eqb _ _ same)
 
-pub returns-in-cells : goal.returns-in-cells
-returns-in-cells c =
-    let t = c.args.table.now in
-    let other : amount_at t c.cells.c ≡ c.sides.sum → ⊥ = λ e. c.if-sum-from.false (omega (arith, e, c.from.ensures, c.row_of.ensures.amount)) in
-    ap (option_map (λ x. Amount (record { 0 = x }))) (sym (c.cells.invariant ∙ bad_found _ _ _ (omega arith) (compared (goal.at.returns-in-cells c).After-sides ∙ ne_eqb _ _ other)))
+pub returns-then-sum-from : goal.returns-then-sum-from
+returns-then-sum-from c =
+    let other : amount_at c.args.table.now c.cells.c ≡ c.sides.sum → ⊥ = λ e. omega arith in
+    ap (option_map (λ x. Amount (record { 0 = x }))) (sym (c.cells.invariant ∙ bad_found _ _ _ (omega arith) (compared (goal.at.returns-then-sum-from c).After-sides ∙ ne_eqb _ _ other)))
 
 pub returns : goal.returns
 returns c = ap (option_map (λ x. Amount (record { 0 = x }))) (sym (c.cells.invariant ∙ bad_none _ _ _ (omega arith)))
