@@ -2,6 +2,7 @@
 use Rattle.std.proofs.Common.{◌≡◌, ℕ, ◌+◌, ◌-◌, ◌<◌, Bool, true, false, cond, not, ◌&&◌, ◌||◌, eqb, ltb, leb, List, [], ◌∷◌, ◌++◌, Some, None, sum_by, Option, sym, refl, ap, ◌∙◌, ap₂, inl, inr, arith, ltb-true, eq-eqb, ne_eqb, leb-true}
 use Rattle.std.proofs.lemmas.List.Sums.{sum_by-cons}
 use Rattle.std.proofs.lemmas.Bool.{cond-true, cond-false, cases_Bool, cases_eq, and_parts, and_from, or_left, or_right, or_from, not-true, not_from_false, both_ways}
+use Rattle.std.proofs.lemmas.Bool.Decides.{nat_tests}
 use Rattle.std.specs.Option.{option_to_list}
 use Rattle.model.specs.declared.steps.Step.{Step}
 use Rattle.model.specs.Bytes.{columns, rows, count, rain_at}
@@ -19,30 +20,12 @@ use Rattle.checker.proofs.Parts.{sends_parts}
 use Rattle.checker.proofs.Sides.{sides, next_among}
 
 -- where a step leads
-never_some : {A : Type 0} (d : ℕ) → None ≡ Some d → A
-never_some d e = let never : ◌≡◌ {A = ℕ} 0 1 = cc in absurd (omega arith)
-
 led : (w h c d : ℕ) (s : Step) → stepped w h s c ≡ Some d → (row w d + s.up ≡ row w c + s.down) × (column w d + s.left ≡ column w c + s.right)
 led w h c d s e =
     let r = row w c + s.down - s.up in
     let x = column w c + s.right - s.left in
-    elim (cases_Bool (leb s.up (row w c + s.down) && ltb r h)) [
-      | inl a ↦
-          let down : moved h s.up s.down (row w c) ≡ Some r = cond-true _ _ _ a in
-          elim (cases_Bool (leb s.left (column w c + s.right) && ltb x w)) [
-            | inl b ↦
-                let is : Some (cell_at w r x) ≡ Some d = sym (ap₂ (cell_at_both w) down (cond-true _ _ _ b)) ∙ e in
-                let at : cell_at w r x ≡ d = cc in
-                let lies = numbered w h r x (ltb-true r h (and_parts (leb s.up (row w c + s.down)) (ltb r h) a).1) (ltb-true x w (and_parts (leb s.left (column w c + s.right)) (ltb x w) b).1) in
-                let up = leb-true _ _ (and_parts (leb s.up (row w c + s.down)) (ltb r h) a).0 in
-                let left = leb-true _ _ (and_parts (leb s.left (column w c + s.right)) (ltb x w) b).0 in
-                let in_row : row w d ≡ r = ap (row w) (sym at) ∙ lies.row in
-                let in_column : column w d ≡ x = ap (column w) (sym at) ∙ lies.column in
-                (ap (λ y. y + s.up) in_row ∙ omega arith, ap (λ y. y + s.left) in_column ∙ omega arith)
-            | inr b ↦ never_some d (sym (ap₂ (cell_at_both w) down (cond-false _ _ _ b)) ∙ e)
-          ]
-      | inr a ↦ never_some d (sym (ap (λ o. cell_at_both w o (moved w s.left s.right (column w c))) (cond-false _ _ _ a)) ∙ e)
-    ]
+    let lies = numbered w h r x in
+    (grind (arith, nat_tests), grind (arith, nat_tests))
 
 abbrev up_step : Step
 up_step = record { up = 1; left = 0; right = 0; down = 0 }
@@ -73,12 +56,12 @@ distinct_more (Some x) ys rest new = and_from _ _ (not_from_false _ (new x refl)
 sum_among : (h : ℕ → ℕ) (n : ℕ) (xs : List ℕ) → distinct xs ≡ true → ((d : ℕ) → among d xs ≡ true → d < n) → sum (λ d. cond (among d xs) (h d) 0) n ≡ sum_by h xs
 sum_among h n [] once within = sum_zero _ n (λ d a. refl)
 sum_among h n (x ∷ xs) once within =
-    let parts = and_parts (not (among x xs)) (distinct xs) once in
-    let new = not-true (among x xs) parts.0 in
-    let here = or_left (eqb x x) (among x xs) (eq-eqb x x refl) in
-    let rest = sum_among h n xs parts.1 (λ d e. within d (or_right (eqb d x) (among d xs) e)) in
-    let more = sum_more (λ d. cond (among d xs) (h d) 0) (λ d. cond (eqb d x || among d xs) (h d) 0) n x (within x here) (rw new refl) (λ d a ne. let other = ne_eqb d x ne in rw other refl) in
-    more ∙ omega (arith, rest, cond-true (eqb x x || among x xs) (h x) 0 here, sum_by-cons h x xs)
+    let new : (not (among x xs) ≡ true) × (distinct xs ≡ true) = and_parts _ _ once in
+    let rest = sum_among h n xs new.1 (λ d e. within d (or_right (eqb d x) (among d xs) e)) in
+    let in_it = within x (or_left (eqb x x) (among x xs) (eq-eqb x x refl)) in
+    let more = sum_more (λ d. cond (among d xs) (h d) 0) (λ d. cond (eqb d x || among d xs) (h d) 0) n x in_it (grind (arith, nat_tests)) (λ d a ne. grind (arith, nat_tests)) in
+    let here : cond (eqb x x || among x xs) (h x) 0 ≡ h x = grind (arith, nat_tests) in
+    more ∙ omega (arith, rest, here, sum_by-cons h x xs)
 
 -- the neighbours of a cell are as many cells
 distinct_sides : (w h c : ℕ) → distinct (neighbours w h four_sides c) ≡ true
@@ -95,23 +78,20 @@ distinct_sides w h c =
 module _ (bs : List ℕ) (f : Flow) (g : ℕ → ℕ) (right : (n : ℕ) → n < count bs → sends_ok (land bs) f n ≡ true) where
   -- a cell that is no neighbour of c sends nothing to it
   from_afar : (c d : ℕ) → c < count bs → d < count bs → among d (sides bs 4 c) ≡ false → sends f g c d ≡ 0
-  from_afar c d a b far = elim (cases_Bool (f.off d)) [
-    | inl off ↦ rw off refl
-    | inr on ↦ elim (cases_eq (f.to d) c) [
-      | inl to ↦ absurd (both_ways _ far (next_among bs c d b (adjacent_both_ways (columns bs) c d ∙ (ap ((land bs).next d) (sym to) ∙ (sends_parts (land bs) f d (right d b)).beside on))))
-      | inr other ↦ let ne = ne_eqb (f.to d) c other in rw (on, ne) refl
-    ]
-  ]
+  from_afar c d a b far =
+      let there = sends_parts (land bs) f d (right d b) in
+      let next = next_among bs c d b in
+      let back = adjacent_both_ways (columns bs) c d in
+      let o = cases_Bool (f.off d) in
+      let i = cases_eq (f.to d) c in
+      grind (arith, nat_tests)
 
   -- WHAT COMES TO A CELL comes from its neighbours
   pub gathered : (c : ℕ) → c < count bs → sum_by (sends f g c) (sides bs 4 c) ≡ sent f g c (count bs)
   gathered c a =
       let near = λ (d : ℕ) (e : among d (sides bs 4 c) ≡ true). ltb-true d (count bs) (and_parts (ltb d (count bs)) ((land bs).next c d) (sym (neighbours_share_a_side (columns bs) (rows bs) c d) ∙ e)).0 in
       sym (sum_among (sends f g c) (count bs) (sides bs 4 c) (distinct_sides (columns bs) (rows bs) c) near) ∙
-      sum_same _ _ (count bs) (λ d b. elim (cases_Bool (among d (sides bs 4 c))) [
-        | inl in_List ↦ cond-true (among d (sides bs 4 c)) _ _ in_List
-        | inr far ↦ cond-false (among d (sides bs 4 c)) _ _ far ∙ sym (from_afar c d a b far)
-      ])
+      sum_same _ _ (count bs) (λ d b. let far = from_afar c d a b in let i = cases_Bool (among d (sides bs 4 c)) in grind arith)
 
   pub amount_by : (c v : ℕ) → c < count bs → v ≡ rain_at bs c + sum_by (sends f g c) (sides bs 4 c) → amount_ok (land bs) f g c ≡ eqb (g c) v
   unfolding amount_ok

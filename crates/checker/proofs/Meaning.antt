@@ -1,6 +1,7 @@
 -- The conditions on all cells are those of the certificate, and that amounts add up.
 use Rattle.std.proofs.Common.{◌≡◌, ℕ, ◌*◌, ◌<◌, true, eqb, List, length, Some, None, Ok, Err, Result, sym, ◌∙◌, ap₂, inl, inr, arith, eq-eqb, eqb-true, MatchResult}
 use Rattle.std.proofs.lemmas.Bool.{cases_Bool, cases_eq, cases_lt, cond-true, cond-false}
+use Rattle.std.proofs.lemmas.Bool.Decides.{nat_tests}
 use Rattle.std.specs.Result.{result_err}
 use Rattle.model.specs.declared.refusal.Refusal.{Refusal}
 use Rattle.model.specs.declared.refusal.Refusal.TheVariants.{Table, Level, Sends, Amount}
@@ -44,10 +45,7 @@ module _ (l : Land) (f : Flow) (p : Certified l f) (c : ℕ) (a : c < l.cells) w
   sends_by = sends_whole l f c (record { off = p.sends_off c a; inside = p.inside c a; beside = p.beside c a; nearer = p.nearer c a })
 
   fills_by : f.level c ≡ filled l f c
-  fills_by = elim (cases_Bool (f.off c)) [
-    | inl off ↦ p.outlet_level c a off ∙ sym (cond-true (f.off c) _ _ off)
-    | inr on ↦ p.fills c a on ∙ sym (cond-false (f.off c) _ _ on)
-  ]
+  fills_by = let o = cases_Bool (f.off c) in grind (arith, p.outlet_level c a, p.fills c a)
 
   level_by : level_ok l f c ≡ true
   level_by = level_whole l f c (record {
@@ -60,10 +58,7 @@ module _ (l : Land) (f : Flow) (p : Certified l f) (c : ℕ) (a : c < l.cells) w
 
 -- a table without a fault has the right length
 whole_by : (bs t : List ℕ) → length_fault bs t ≡ None → Whole bs t
-whole_by bs t e = elim (cases_Bool (eqb (length t) (row_size * count bs))) [
-  | inl same ↦ eqb-true _ _ same
-  | inr other ↦ let never : ◌≡◌ {A = ℕ} 0 1 = cc (cond-false (eqb (length t) (row_size * count bs)) None (Some (Table (length t))) other) in absurd (omega arith)
-]
+whole_by bs t e = grind (arith, nat_tests)
 
 right_if_accepted : (bs t : List ℕ) → check_fault bs t ≡ None → Right bs t
 unfolding amount_ok
@@ -109,4 +104,4 @@ accepted bs t e =
 -- what an answer means
 pub meaning : {X : Type 0} (bs t : List ℕ) (r : Result X Refusal) → result_err r ≡ check_fault bs t → MatchResult r (λ _. Accepted bs t) (λ _. Right bs t → ⊥)
 meaning bs t (Ok x) e = accepted bs t (sym e)
-meaning bs t (Err y) e = λ right. let never : ◌≡◌ {A = ℕ} 0 1 = cc (e ∙ accepted_if_so bs t right) in omega arith
+meaning bs t (Err y) e = λ right. cc (accepted_if_so bs t right)
