@@ -1,12 +1,12 @@
 -- What comes to a cell of a table comes from its neighbours, each of which is one cell.
-use Rattle.std.proofs.Common.{◌≡◌, ℕ, ◌+◌, ◌-◌, ◌<◌, Bool, true, false, cond, not, ◌&&◌, ◌||◌, eqb, ltb, leb, List, [], ◌∷◌, ◌++◌, Some, None, sum_by, Option, sym, refl, ap, ◌∙◌, ap₂, inl, inr, arith, ltb-true, eq-eqb, ne_eqb, leb-true}
+use Rattle.std.proofs.Common.{◌≡◌, ℕ, ◌+◌, ◌-◌, ◌<◌, Bool, true, false, cond, not, ◌&&◌, ◌||◌, eqb, ltb, List, [], ◌∷◌, ◌++◌, Some, None, sum_by, Option, sym, refl, ap, ◌∙◌, arith, ltb-true, eq-eqb, ne_eqb}
 use Rattle.std.proofs.lemmas.List.Sums.{sum_by-cons}
-use Rattle.std.proofs.lemmas.Bool.{cond-true, cond-false, cases_Bool, cases_eq, and_parts, and_from, or_left, or_right, or_from, not-true, not_from_false, both_ways}
+use Rattle.std.proofs.lemmas.Bool.{cases_Bool, cases_eq, and_parts, and_from, or_left, or_right, or_from, not_from_false}
 use Rattle.std.proofs.lemmas.Bool.Decides.{nat_tests}
 use Rattle.std.specs.Option.{option_to_list}
 use Rattle.model.specs.declared.steps.Step.{Step}
 use Rattle.model.specs.Bytes.{columns, rows, count, rain_at}
-use Rattle.model.specs.Grid.{row, column, cell_at, cell_at_both, moved, stepped, four_sides, neighbours, among}
+use Rattle.model.specs.Grid.{row, column, stepped, four_sides, neighbours, among}
 use Rattle.model.specs.Terrain.{land}
 use Rattle.model.proofs.Neighbours.{neighbours_share_a_side}
 use Rattle.model.proofs.Positions.{numbered, adjacent_both_ways}

@@ -1,10 +1,10 @@
 -- The conditions on all cells are those of the certificate, and that amounts add up.
-use Rattle.std.proofs.Common.{◌≡◌, ℕ, ◌*◌, ◌<◌, true, eqb, List, length, Some, None, Ok, Err, Result, sym, ◌∙◌, ap₂, inl, inr, arith, eq-eqb, eqb-true, MatchResult}
+use Rattle.std.proofs.Common.{◌≡◌, ℕ, ◌<◌, true, List, None, Ok, Err, Result, sym, ◌∙◌, ap₂, inl, inr, arith, eq-eqb, eqb-true, MatchResult}
 use Rattle.std.proofs.lemmas.Bool.{cases_Bool, cases_eq, cases_lt, cond-true, cond-false}
 use Rattle.std.proofs.lemmas.Bool.Decides.{nat_tests}
 use Rattle.std.specs.Result.{result_err}
 use Rattle.model.specs.declared.refusal.Refusal.{Refusal}
-use Rattle.model.specs.declared.refusal.Refusal.TheVariants.{Table, Level, Sends, Amount}
+use Rattle.model.specs.declared.refusal.Refusal.TheVariants.{Level, Sends, Amount}
 use Rattle.model.specs.Bytes.{count}
 use Rattle.model.specs.Faults.{or_else, fault}
 use Rattle.model.specs.Land.{Land}
@@ -18,7 +18,7 @@ use Rattle.flood.proofs.Certificate.{certified_drains}
 use Rattle.flood.proofs.Comparing.{only_levels}
 use Rattle.flood.proofs.Models.{models_right}
 use Rattle.flood.proofs.Turns.{sound}
-use Rattle.amounts.specs.Row.{row_size, amount_at}
+use Rattle.amounts.specs.Row.{amount_at}
 use Rattle.amounts.proofs.Carrying.{drained_acyclic, only_amounts, nothing_lost}
 use Rattle.checker.specs.Accepted.{Right, Accepted}
 use Rattle.checker.specs.Conditions.{sends_ok, level_ok, filled, amount_ok}

@@ -1,7 +1,7 @@
 -- Where a cell of a table sends: each way to find it right or wrong.
-use Rattle.std.proofs.Common.{◌≡◌, ℕ, ◌+◌, true, false, ◌&&◌, eqb, ltb, [], ◌∷◌, ◌++◌, ap, ◌∙◌, ap₂, sym, refl, List, arith}
+use Rattle.std.proofs.Common.{◌≡◌, ℕ, ◌+◌, true, false, ◌&&◌, eqb, ltb, [], ◌∷◌, ◌++◌, refl, List, arith}
 use Rattle.std.proofs.lemmas.Bool.Decides.{nat_tests}
-use Rattle.model.specs.Bytes.{columns, rows, count}
+use Rattle.model.specs.Bytes.{columns, rows}
 use Rattle.model.specs.Grid.{among}
 use Rattle.model.specs.Terrain.{land}
 use Rattle.model.proofs.Neighbours.{neighbours_share_a_side, among_append}

@@ -2,6 +2,7 @@
 #![tactic(auto)]
 
 pub mod checking;
+mod table;
 #[cfg(test)]
 mod tests;
 pub mod theorems;

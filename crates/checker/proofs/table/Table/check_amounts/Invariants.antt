@@ -8,14 +8,14 @@ use Rattle.checker.specs.Table.{flow_from}
 use Rattle.checker.specs.Conditions.{amount_ok}
 use Rattle.checker.specs.Faults.{first_bad}
 use Rattle.checker.proofs.Sides.{sides}
-use Rattle.checker.proofs.checking.check_amounts.Given as goal
+use Rattle.checker.proofs.table.Table.check_amounts.Given as goal
 
 abbrev pub invariant-cells : goal.invariant-cells
 invariant-cells l =
-    first_bad (amount_ok (land (bytes_of l.model)) (flow_from l.table) (amount_at l.table)) 0 (count (bytes_of l.model)) ≡
-    first_bad (amount_ok (land (bytes_of l.model)) (flow_from l.table) (amount_at l.table)) l.c (count (bytes_of l.model) - l.c)
+    first_bad (amount_ok (land (bytes_of l.self.model)) (flow_from l.self.bytes.now) (amount_at l.self.bytes.now)) 0 (count (bytes_of l.self.model)) ≡
+    first_bad (amount_ok (land (bytes_of l.self.model)) (flow_from l.self.bytes.now) (amount_at l.self.bytes.now)) l.c (count (bytes_of l.self.model) - l.c)
 
 abbrev pub invariant-sides : goal.invariant-sides
 invariant-sides l =
-    (l.sum ≡ rain_at (bytes_of l.model) l.c + sum_by (sends (flow_from l.table) (amount_at l.table) l.c) (sides (bytes_of l.model) l.side-index l.c)) ×
+    (l.sum ≡ rain_at (bytes_of l.self.model) l.c + sum_by (sends (flow_from l.self.bytes.now) (amount_at l.self.bytes.now) l.c) (sides (bytes_of l.self.model) l.side-index l.c)) ×
     (l.sum < (l.side-index + 1) * 2 ^ 64)

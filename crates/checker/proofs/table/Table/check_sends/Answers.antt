@@ -5,7 +5,7 @@ use Rattle.std.proofs.lemmas.Bool.Decides.{nat_tests}
 use Rattle.checker.proofs.FirstBad.{bad_next, bad_none}
 use Rattle.checker.proofs.Sides.{side_none, side_some, side_in, side_among}
 use Rattle.checker.proofs.Sending.{off_right, off_wrong, on, still_none}
-use Rattle.checker.proofs.checking.check_sends.Goals as goal
+use Rattle.checker.proofs.table.Table.check_sends.Goals as goal
 
 pub returns-then-not-is_off_right : goal.returns-then-not-is_off_right
 returns-then-not-is_off_right c = grind (arith, common_steps, bad_next, off_wrong)
@@ -18,20 +18,20 @@ sides-preserved-in_default-neighbour c = grind (arith, common_steps, side_none)
 
 pub sides-preserved : goal.sides-preserved
 sides-preserved c =
-    let more = side_some c.args.model.now.bytes.now c.cells.c c.sides.side-index _ (omega arith) (omega arith) c.in-Some.next.0 c.in-Some.ensures in
+    let more = side_some c.args.self.now.model.bytes.now c.cells.c c.sides.side-index _ (omega arith) (omega arith) c.in-Some.next.0 c.in-Some.ensures in
     grind (arith, nat_tests, still_none)
 
-pub row_of-requires : goal.row_of-requires
-row_of-requires c = omega (arith, side_in c.args.model.now.bytes.now c.cells.c c.sides.side-index _ (omega arith) (omega arith) c.in-Some.next.0 c.in-Some.ensures)
+pub row-requires : goal.row-requires
+row-requires c = omega (arith, side_in c.args.self.now.model.bytes.now c.cells.c c.sides.side-index _ (omega arith) (omega arith) c.in-Some.next.0 c.in-Some.ensures)
 
 pub cells-preserved : goal.cells-preserved
 cells-preserved c =
-    let beside = side_among c.args.model.now.bytes.now c.cells.c c.sides.side-index _ (omega arith) (omega arith) c.in-Some.next.0 c.in-Some.ensures in
+    let beside = side_among c.args.self.now.model.bytes.now c.cells.c c.sides.side-index _ (omega arith) (omega arith) c.in-Some.next.0 c.in-Some.ensures in
     grind (arith, nat_tests, bad_next, on)
 
 pub returns-in-sides : goal.returns-in-sides
 returns-in-sides c =
-    let beside = side_among c.args.model.now.bytes.now c.cells.c c.sides.side-index _ (omega arith) (omega arith) c.in-Some.next.0 c.in-Some.ensures in
+    let beside = side_among c.args.self.now.model.bytes.now c.cells.c c.sides.side-index _ (omega arith) (omega arith) c.in-Some.next.0 c.in-Some.ensures in
     grind (arith, nat_tests, bad_next, on)
 
 pub returns-in-cells : goal.returns-in-cells

@@ -7,12 +7,12 @@ use Rattle.checker.specs.Table.{flow_from}
 use Rattle.checker.specs.Conditions.{sends_ok}
 use Rattle.checker.specs.Faults.{first_bad}
 use Rattle.checker.proofs.Sides.{sides}
-use Rattle.checker.proofs.checking.check_sends.Given as goal
+use Rattle.checker.proofs.table.Table.check_sends.Given as goal
 
 abbrev pub invariant-cells : goal.invariant-cells
 invariant-cells l =
-    first_bad (sends_ok (land (bytes_of l.model)) (flow_from l.table)) 0 (count (bytes_of l.model)) ≡
-    first_bad (sends_ok (land (bytes_of l.model)) (flow_from l.table)) l.c (count (bytes_of l.model) - l.c)
+    first_bad (sends_ok (land (bytes_of l.self.model)) (flow_from l.self.bytes.now)) 0 (count (bytes_of l.self.model)) ≡
+    first_bad (sends_ok (land (bytes_of l.self.model)) (flow_from l.self.bytes.now)) l.c (count (bytes_of l.self.model) - l.c)
 
 abbrev pub invariant-sides : goal.invariant-sides
-invariant-sides l = among l.to.0 (sides (bytes_of l.model) l.side-index l.c) ≡ false
+invariant-sides l = among l.to.0 (sides (bytes_of l.self.model) l.side-index l.c) ≡ false
