@@ -2,6 +2,7 @@
 use Rattle.std.specs.Prelude.{◌≡◌, ℕ, ◌<◌, cond, List, length, Some, None, Option, nat_lt}
 use Rattle.std.specs.Option.{option_map}
 use Rattle.model.specs.Bytes.{count}
+use Rattle.model.specs.Slices.{Contents}
 use Rattle.model.specs.Terrain.{land}
 use Rattle.amounts.specs.declared.answer.Drained.{Drained}
 use Rattle.amounts.specs.Draining.{room_fault, Unchanged}
@@ -14,10 +15,10 @@ use Rattle.basins.specs.Exits.{basin_sum}
 use Rattle.basins.specs.Parting.{basin_at, Parted, BasinsFound}
 
 -- the first slice that is too short for n cells: those of the basins, then those of draining
-abbrev pub drain_basins_fault : ℕ → (levels flow amounts work exits cells : List ℕ) → Option Refused
-drain_basins_fault n levels flow amounts work exits cells =
+abbrev pub drain_basins_fault : ℕ → Contents → (exits cells : List ℕ) → Option Refused
+drain_basins_fault n s exits cells =
     cond (nat_lt (length exits) n) (Some (Basins Exits))
-    (cond (nat_lt (length cells) n) (Some (Basins Cells)) (option_map Drain (room_fault n levels flow amounts work)))
+    (cond (nat_lt (length cells) n) (Some (Basins Cells)) (option_map Drain (room_fault n s)))
 
 -- the basin of e in a model: how many cells send their water there, and the rain on them
 abbrev pub basin_of : List ℕ → ℕ → Basin
@@ -28,16 +29,16 @@ basin_of bs e = record {
 }
 
 -- THE MAIN PROMISE of basins
-pub record BasinsPromise (bs levels flow amounts work exits cells levels' flow' amounts' work' exits' cells' : List ℕ) (d : Drained) : Type 0 where
+pub record BasinsPromise (bs : List ℕ) (old new : Contents) (exits cells exits' cells' : List ℕ) (d : Drained) : Type 0 where
   -- the model is drained, and the slices of the basins hold just what was found
-  pub drained : Promise bs levels flow amounts work levels' flow' amounts' work' d
-  pub found : BasinsFound bs flow' work' exits cells exits' cells'
+  pub drained : Promise bs old new d
+  pub found : BasinsFound bs new.flow new.work exits cells exits' cells'
   -- these are the basins, and what is read for each cell is the basin of an exit, none of any other
   pub parted : Parted bs exits' cells'
-  pub listed : (e : ℕ) → e < count bs → basin_at flow' amounts' cells' e ≡ cond ((flow_in bs).off e) (Some (basin_of bs e)) None
+  pub listed : (e : ℕ) → e < count bs → basin_at new.flow new.amounts cells' e ≡ cond ((flow_in bs).off e) (Some (basin_of bs e)) None
 
 -- nothing is written
-pub record Untouched (levels flow amounts work exits cells levels' flow' amounts' work' exits' cells' : List ℕ) : Type 0 where
-  pub same : Unchanged levels flow amounts work levels' flow' amounts' work'
+pub record Untouched (old new : Contents) (exits cells exits' cells' : List ℕ) : Type 0 where
+  pub same : Unchanged old new
   pub same_exits : exits' ≡ exits
   pub same_cells : cells' ≡ cells

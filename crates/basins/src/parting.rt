@@ -9,6 +9,7 @@ use crate::short::Short;
 use crate::tracing::find_exits;
 use flood::sends::Sends;
 use model::land::Model;
+use model::slices::long_enough;
 use model::units::{Amount, Cell};
 
 // A basin: its exit, how many cells it has, and the amount that leaves it.
@@ -48,7 +49,7 @@ pub fn basin_at(flow: &[u32], amounts: &[u64], cells: &[u32], cell: Cell) -> Opt
 {
     let at = cell.index();
     let (sends, amount, cells) = (*flow.get(at)?, *amounts.get(at)?, *cells.get(at)?);
-    match Sends::of_code(sends) {
+    match Sends::from(sends) {
         Sends::Off => Some(Basin {
             outlet: cell,
             cells,
@@ -71,9 +72,7 @@ pub fn find_basins(
     ensures after { MatchResult result (λ _. BasinsFound (bytes_of model.now) flow.now work.now exits.old cells.old exits.new cells.new) (λ _. (exits.new ≡ exits.old) × (cells.new ≡ cells.old)) }
 {
     let n = model.cells() as usize;
-    if cells.len() < n {
-        return Err(Short::Cells);
-    }
+    long_enough(cells, n, Short::Cells)?;
     find_exits(model, flow, work, exits)?;
     count_cells(&exits[0..n], &mut cells[0..n]);
     Ok(())

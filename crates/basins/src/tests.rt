@@ -3,8 +3,8 @@ use crate::draining::drain_basins;
 use crate::parting::{Basin, basin_at, find_basins};
 use crate::short::Short;
 use crate::tracing::exit_of;
-use model::land::Model;
 use model::reading::read;
+use model::slices::Slices;
 use model::units::{Amount, Cell};
 use std::test::Fail;
 
@@ -49,12 +49,14 @@ fn find(
     exits: &mut [u32],
     cells: &mut [u32],
 ) -> Result<(), Fail> {
-    let Ok(grid) = read(bytes) else {
-        return Err(Fail::new("the model is refused"));
-    };
     let (mut levels, mut work) = ([0; 15], [0; 45]);
-    let model = Model::new(grid, bytes);
-    drain_basins(&model, &mut levels, flow, amounts, &mut work, exits, cells)?;
+    let mut slices = Slices {
+        levels: &mut levels,
+        flow,
+        amounts,
+        work: &mut work,
+    };
+    drain_basins(&read(bytes)?, &mut slices, exits, cells)?;
     Ok(())
 }
 
@@ -110,10 +112,7 @@ fn some_ways_have_no_exit(rt: HostRuntime) {
 // A slice that is too short is refused, and nothing is written.
 #[test]
 fn refusals_change_nothing(rt: HostRuntime) -> Result<(), Fail> {
-    let Ok(grid) = read(HOLLOW) else {
-        return Err(Fail::new("the hollow is refused"));
-    };
-    let model = Model::new(grid, HOLLOW);
+    let model = read(HOLLOW)?;
     let (mut exits, mut cells) = ([7; 9], [7; 9]);
     assert_eq!(rt;
         find_basins(&model, &[0; 9], &[0; 17], &mut exits, &mut cells),

@@ -11,6 +11,7 @@ ghost use Rattle.basins.specs.Tracing.{exits_fault, Traced};
 use crate::short::Short;
 use flood::sends::Sends;
 use model::land::Model;
+use model::slices::long_enough;
 use model::units::Cell;
 
 // The exit of a cell, on any flow: none where the way comes round again, or to a code that is no cell.
@@ -19,7 +20,7 @@ pub fn exit_of(flow: &[u32], cell: Cell) -> Option<Cell>
 {
     let mut at = cell;
     for _step in 0..flow.len() {
-        match Sends::of_code(*flow.get(at.index())?) {
+        match Sends::from(*flow.get(at.index())?) {
             Sends::Off => return Some(at),
             Sends::To(next) => at = next,
         }
@@ -31,7 +32,7 @@ pub fn exit_of(flow: &[u32], cell: Cell) -> Option<Cell>
 fn exit_by(flow: &[u32], exits: &[u32], cell: u32) -> u32
     ensures { result ≡ exit_by flow.now exits.now cell }
 {
-    match Sends::of_code(flow.get(cell as usize).copied().unwrap_or(0)) {
+    match Sends::from(flow.get(cell as usize).copied().unwrap_or(0)) {
         Sends::Off => cell,
         Sends::To(next) => exits.get(next.index()).copied().unwrap_or(0),
     }
@@ -69,15 +70,9 @@ pub fn find_exits(
     ensures after { MatchResult result (λ _. Traced (bytes_of model.now) flow.now work.now exits.old exits.new) (λ _. exits.new ≡ exits.old) }
 {
     let n = model.cells() as usize;
-    if flow.len() < n {
-        return Err(Short::Flow);
-    }
-    if work.len() < 2 * n {
-        return Err(Short::Work);
-    }
-    if exits.len() < n {
-        return Err(Short::Exits);
-    }
+    long_enough(flow, n, Short::Flow)?;
+    long_enough(work, 2 * n, Short::Work)?;
+    long_enough(exits, n, Short::Exits)?;
     tell_exits(&flow[0..n], &work[n..2 * n], &mut exits[0..n]);
     Ok(())
 }

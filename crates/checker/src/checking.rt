@@ -12,7 +12,6 @@ ghost use Rattle.checker.specs.Conditions.{off_ok, filled};
 ghost use Rattle.checker.specs.Faults.{sends_fault, level_fault, amount_fault, table_fault, check_fault};
 
 use crate::table::Table;
-use crate::values::{height_of, rain_of};
 use flood::sends::Sends;
 use model::land::Model;
 use model::reading::read;
@@ -65,7 +64,7 @@ impl Table<'_> {
         requires to { (flow_from self.now.bytes.now).off cell.0 ≡ false → (flow_from self.now.bytes.now).to cell.0 < count (bytes_of self.now.model) }
         ensures { result.0 ≡ filled (land (bytes_of self.now.model)) (flow_from self.now.bytes.now) cell.0 }
     {
-        let height = height_of(&self.model, cell);
+        let height = self.model.height_of(cell);
         match self.row(cell).sends {
             Sends::Off => height,
             Sends::To(to) => height.higher(self.row(to).level),
@@ -83,7 +82,7 @@ impl Table<'_> {
             if level != self.fill_of(cell) {
                 return Err(Refusal::Level(cell));
             }
-            if level == height_of(&self.model, cell) {
+            if level == self.model.height_of(cell) {
                 continue 'cells;
             }
             'sides: for side in SIDES {
@@ -118,7 +117,7 @@ impl Table<'_> {
     {
         'cells: for c in 0..self.model.cells() {
             let cell = Cell(c);
-            let mut sum = u128::from(rain_of(&self.model, cell).0);
+            let mut sum = u128::from(self.model.rain_of(cell).0);
             'sides: for side in SIDES {
                 let Some(next) = self.model.neighbour(cell, side) else {
                     continue 'sides;
@@ -148,6 +147,5 @@ pub fn check(bytes: &[u8], table: &[u8]) -> Result<(), Refusal>
     ensures refused { result_err result ≡ check_fault bytes.now table.now }
     ensures meaning { MatchResult result (λ _. Accepted bytes.now table.now) (λ _. (Right bytes.now table.now → ⊥)) }
 {
-    let grid = read(bytes)?;
-    check_table(&Model::new(grid, bytes), table)
+    check_table(&read(bytes)?, table)
 }

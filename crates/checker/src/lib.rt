@@ -6,4 +6,3 @@ mod table;
 #[cfg(test)]
 mod tests;
 pub mod theorems;
-mod values;

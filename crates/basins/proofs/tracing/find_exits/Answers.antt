@@ -1,4 +1,5 @@
-use Rattle.std.proofs.Common.{◌≡◌, ◌-◌, ◌*◌, length, take, drop, arith, length-take}
+use Rattle.std.proofs.Common.{◌≡◌, ◌≤◌, ◌-◌, ◌*◌, length, take, drop, arith, length-take}
+use Rattle.std.proofs.lemmas.Bool.Decides.{nat_tests}
 use Rattle.std.proofs.lemmas.Grind.{common_steps}
 use Rattle.model.specs.Bytes.{count}
 use Rattle.model.proofs.Taken.{formed}
@@ -17,4 +18,5 @@ returns-clause-after c =
     let n = c.cells-n.ensures in
     let i = c.cells-n.result in
     let long : length (take (2 * i - i) (drop i c.args.work.now)) ≡ count bs = grind (arith, common_steps) in
-    traced bs (formed bs c.args.model.now.taken) c.args.flow.now c.args.work.now c.args.exits.now (omega arith) _ (grind (arith, common_steps))
+    let fits : count bs ≤ length c.args.exits.now = grind (arith, nat_tests) in
+    traced bs (formed bs c.args.model.now.taken) c.args.flow.now c.args.work.now c.args.exits.now fits _ (grind (arith, common_steps))
