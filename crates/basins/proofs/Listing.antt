@@ -8,7 +8,7 @@ use Rattle.model.specs.Slices.{Contents}
 use Rattle.model.specs.WellFormed.{WellFormed}
 use Rattle.flood.specs.Flooded.{table_of}
 use Rattle.flood.specs.Run.{none}
-use Rattle.flood.proofs.Turns.{table_long}
+use Rattle.amounts.proofs.Passes.{table_long}
 use Rattle.amounts.specs.declared.answer.Drained.{Drained}
 use Rattle.amounts.specs.Passing.{table_amounts}
 use Rattle.amounts.specs.Promise.{flow_in, amount_in, Promise}
