@@ -8,7 +8,7 @@ use Rattle.flood.specs.declared.sends.Sends.{Sends}
 use Rattle.flood.specs.declared.sends.Sends.TheVariants.{Off, To}
 use Rattle.amounts.specs.Accumulation.{amounts_of}
 
--- what is lost off the land of an amount that is sent there: all of it, or nothing
+-- what leaves the land of an amount that is sent there: all of it, or nothing
 abbrev pub left_by : Sends → ℕ → ℕ
 left_by Off amount = amount
 left_by (To _) amount = 0

@@ -45,8 +45,8 @@ pub fn drain_again(model: &Model<'_>, slices: &mut Slices<'_>) -> Result<Drained
     ensures after { MatchResult result (λ a. Again (bytes_of model.now) (contents slices.old) (contents slices.new) a) (λ _. Unchanged (contents slices.old) (contents slices.new)) }
     ensures same { SameSlices slices.old slices.new }
 {
+    check_room(model, slices)?;
     let n = model.cells() as usize;
-    check_room(n, slices)?;
     // Each slice by a name of its own: the check does not follow two fields that are lent at once.
     let levels = &mut *slices.levels;
     let flow = &mut *slices.flow;

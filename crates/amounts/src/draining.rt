@@ -19,11 +19,11 @@ use model::reading::read;
 use model::refusal::{Lent, Refusal};
 use model::slices::{Slices, long_enough};
 
-// The first of the four slices that is too short for n cells.
-pub(crate) fn check_room(n: usize, slices: &Slices<'_>) -> Result<(), Refusal>
-    requires { n ≤ 160000 }
-    ensures { result_err result ≡ room_fault n (contents slices.now) }
+// The first of the four slices that is too short for the model.
+pub(crate) fn check_room(model: &Model<'_>, slices: &Slices<'_>) -> Result<(), Refusal>
+    ensures { result_err result ≡ room_fault (count (bytes_of model.now)) (contents slices.now) }
 {
+    let n = model.cells() as usize;
     long_enough(slices.levels, n, Refusal::Short(Lent::Levels))?;
     long_enough(slices.flow, n, Refusal::Short(Lent::Flow))?;
     long_enough(slices.amounts, n, Refusal::Short(Lent::Amounts))?;
@@ -61,7 +61,7 @@ pub fn drain_model(model: &Model<'_>, slices: &mut Slices<'_>) -> Result<Drained
     ensures after { MatchResult result (λ d. Promise (bytes_of model.now) (contents slices.old) (contents slices.new) d) (λ _. Unchanged (contents slices.old) (contents slices.new)) }
     ensures same { SameSlices slices.old slices.new }
 {
-    check_room(model.cells() as usize, slices)?;
+    check_room(model, slices)?;
     let looks = flood(model, slices.levels, slices.flow, slices.work)?;
     // Each slice by a name of its own: the check does not follow two fields that are lent at once.
     let flow = &mut *slices.flow;

@@ -24,7 +24,7 @@ fn pass_on(flow: &[u32], amounts: &mut [u64], cell: usize)
     }
 }
 
-// What a cell that sends there loses off the land, of its amount: all of it, or nothing.
+// What leaves the land of an amount that is sent there: all of it, or nothing.
 fn left_by(sends: Sends, amount: Amount) -> Amount
     ensures { result.0 ≡ left_by sends amount.0 }
 {
