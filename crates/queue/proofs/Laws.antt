@@ -1,10 +1,9 @@
 -- What a push and a pop leave, whatever the list.
-use Rattle.std.proofs.Common.{◌≡◌, ℕ, zero, suc, ◌+◌, ◌-◌, ◌^◌, ◌<◌, ◌≤◌, List, length, get_or, take, drop, sum_by, sym, ap, ◌∙◌, subst, inl, inr, arith}
-use Rattle.std.proofs.lemmas.List.{get_or-drop, set-get_or}
-use Rattle.std.proofs.lemmas.List.Sums.{sum_by_more, sum_by-take-drop}
-use Rattle.std.proofs.lemmas.Bool.{cases_eq}
+use Rattle.std.proofs.Common.{◌≡◌, ℕ, zero, suc, ◌+◌, ◌-◌, ◌^◌, ◌<◌, ◌≤◌, List, length, get_or, take, sum_by, ap, arith}
+use Rattle.std.proofs.lemmas.List.{set-get_or}
+use Rattle.std.proofs.lemmas.List.Sums.{sum_by_more}
 use Rattle.queue.specs.Heap.{Heap, Least, Gains, Rest, Sifted, parent_of, sink, pushed, popped}
-use Rattle.queue.proofs.Order.{ordered_heap, gap_last, gap_first}
+use Rattle.queue.proofs.Order.{gap_last, gap_first}
 use Rattle.queue.proofs.Sifts.{rise_mends, sink_mends, rise_length, sink_length}
 
 pub pushed_length : (xs : List ℕ) (n x : ℕ) → length (pushed xs n x).entries ≡ length xs
@@ -28,37 +27,28 @@ pub record AfterPop (xs : List ℕ) (n : ℕ) (s : Sifted) : Type 0 where
   pub rest : Rest xs (n - 1) s.entries
   pub few : (k : ℕ) → n ≤ 2 ^ k → s.looks ≤ k
 
-rest_at : (xs ys : List ℕ) (n : ℕ) → drop n ys ≡ drop n xs → Rest xs n ys
-rest_at xs ys n e k le =
-    let s : n + (k - n) ≡ k = omega arith in
-    sym (ap (λ m. get_or ys m 0) s) ∙ sym (get_or-drop n ys (k - n) 0) ∙ ap (λ l. get_or l (k - n) 0) e ∙ get_or-drop n xs (k - n) 0 ∙ ap (λ m. get_or xs m 0) s
-
 pub after_push : (xs : List ℕ) (n x : ℕ) → n < length xs → AfterPush xs n x (pushed xs n x)
 after_push xs n x long =
-    let ys = (pushed xs n x).entries in
     let m = rise_mends n xs n (n + 1) x 0 long (omega arith) (omega arith) in
     record {
-      order = λ h. ordered_heap ys (n + 1) (m.order (gap_last xs n h, λ k a b f. absurd (omega arith)));
-      content = λ g. omega (arith, m.content g, sum_by-take-drop g ys (n + 1), sum_by-take-drop g xs (n + 1), sum_by_more g xs n 0 long, ap (sum_by g) m.rest);
-      rest = rest_at xs ys (n + 1) m.rest;
+      order = λ h. m.order (gap_last xs n h, λ k a b f. absurd (omega arith));
+      content = λ g. omega (arith, m.content g, sum_by_more g xs n 0 long);
+      rest = m.rest;
       few = λ k low. omega (arith, m.most k low);
     }
 
 first_least : (xs : List ℕ) (n : ℕ) → Heap xs n → (f k : ℕ) → k ≤ f → k < n → get_or xs 0 0 ≤ get_or xs k 0
-first_least xs n h zero k a b = let e : k ≡ 0 = omega arith in omega (arith, ap (λ m. get_or xs m 0) e)
-first_least xs n h (suc f) k a b = elim (cases_eq k 0) [
-  | inl e ↦ omega (arith, ap (λ m. get_or xs m 0) e)
-  | inr u ↦ omega (arith, first_least xs n h f (parent_of k) (omega arith) (omega arith), h k (omega arith) b)
-]
+first_least xs n h zero k a b = grind arith
+first_least xs n h (suc f) k a b = grind (arith, first_least xs n h f (parent_of k), h k)
 
 -- of one entry
 pop_one : (xs : List ℕ) → 0 < length xs → AfterPop xs 1 (popped xs 1)
 unfolding sink
-pop_one xs long = let e = set-get_or xs 0 0 in record {
+pop_one xs long = record {
   least = λ h k b. first_least xs 1 h k k (omega arith) b;
   order = λ h k a b. absurd (omega arith);
   content = λ g. sum_by_more g xs 0 0 long;
-  rest = λ k a. ap (λ ys. get_or ys k 0) e;
+  rest = λ k a. ap (λ ys. get_or ys k 0) (set-get_or xs 0 0);
   few = λ k low. omega arith;
 }
 
@@ -66,19 +56,16 @@ pop_one xs long = let e = set-get_or xs 0 0 in record {
 pop_more : (xs : List ℕ) (n : ℕ) → 1 < n → n ≤ length xs → AfterPop xs n (popped xs n)
 pop_more xs n more long =
     let l = n - 1 in
-    let ys = (popped xs n).entries in
-    let e : l + 1 ≡ n = omega arith in
     let m = sink_mends l xs l 0 (get_or xs l 0) 0 (omega arith) (omega arith) (omega arith) in
     record {
       least = λ h k b. first_least xs n h k k (omega arith) b;
-      order = λ h. ordered_heap ys l (m.order (gap_first xs n h, λ p a b. absurd (omega arith)));
-      content = λ g. omega (arith, m.content g, sum_by-take-drop g ys l, sum_by-take-drop g xs l, sum_by_more g xs l 0 (omega arith), ap (λ k. sum_by g (take k xs)) e, ap (sum_by g) m.rest);
-      rest = rest_at xs ys l m.rest;
+      order = λ h. m.order (gap_first xs n h, λ p a b. absurd (omega arith));
+      content = λ g. omega (arith, m.content g, sum_by_more g xs l 0 (omega arith), ap (λ k. sum_by g (take k xs)) (let e : l + 1 ≡ n = omega arith in e));
+      rest = m.rest;
       few = λ k low. omega (arith, m.most k (omega arith));
     }
 
 pub after_pop : (xs : List ℕ) (n : ℕ) → 0 < n → n ≤ length xs → AfterPop xs n (popped xs n)
-after_pop xs n some long = elim (cases_eq n 1) [
-  | inl e ↦ subst (λ m. AfterPop xs m (popped xs m)) (sym e) (pop_one xs (omega arith))
-  | inr u ↦ pop_more xs n (omega arith) long
-]
+after_pop xs zero some long = absurd (omega arith)
+after_pop xs (suc zero) some long = pop_one xs (omega arith)
+after_pop xs (suc (suc l)) some long = pop_more xs (suc (suc l)) (omega arith) long

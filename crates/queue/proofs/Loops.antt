@@ -1,6 +1,6 @@
 -- The loops of `sift_up` and `sift_down` go as `rise` and `sink` do, a look at a time.
-use Rattle.std.proofs.Common.{◌≡◌, ℕ, zero, suc, ◌+◌, ◌*◌, ◌^◌, ◌<◌, ◌≤◌, ltb, List, length, get_or, set, sym, ap, ◌∙◌, arith, le-ltb, lt-ltb}
-use Rattle.std.proofs.lemmas.Bool.{cond-true, cond-false}
+use Rattle.std.proofs.Common.{◌≡◌, ℕ, zero, suc, ◌+◌, ◌*◌, ◌^◌, ◌<◌, ◌≤◌, List, length, get_or, set, ap, arith}
+use Rattle.std.proofs.lemmas.Bool.Decides.{nat_tests}
 use Rattle.queue.specs.Heap.{Sifted, placed, parent_of, rise, lesser, sink, pushed}
 use Rattle.queue.proofs.Order.{lesser_child}
 use Rattle.queue.proofs.Sifts.{rise_mends, sink_mends}
@@ -19,23 +19,17 @@ module _ {xs₀ : List ℕ} {i₀ x : ℕ} {xs : List ℕ} {i k : ℕ} where
   pub rise_goes : (f : ℕ) → Rising xs₀ i₀ x xs i k f → 0 < i → x < get_or xs (parent_of i) 0 → (f : ℕ) × Rising xs₀ i₀ x (set xs i (get_or xs (parent_of i) 0)) (parent_of i) (k + 1) f
   unfolding rise
   rise_goes zero r p t = let low = r.enough in absurd (omega arith)
-  rise_goes (suc f) r p t = (
-    f,
-    record {
-      enough = omega (arith, r.enough);
-      same = sym (cond-true (ltb 0 i) _ _ (lt-ltb 0 i p) ∙ cond-true (ltb x (get_or xs (parent_of i) 0)) _ _ (lt-ltb _ _ t)) ∙ r.same;
-    },
-  )
+  rise_goes (suc f) r p t = (f, record { enough = omega (arith, r.enough); same = grind (arith, nat_tests, r.same) })
 
   pub rise_stays : (f : ℕ) → Rising xs₀ i₀ x xs i k f → 0 < i → get_or xs (parent_of i) 0 ≤ x → placed xs i x (k + 1) ≡ pushed xs₀ i₀ x
   unfolding rise
   rise_stays zero r p t = let low = r.enough in absurd (omega arith)
-  rise_stays (suc f) r p t = sym (cond-true (ltb 0 i) _ _ (lt-ltb 0 i p) ∙ cond-false (ltb x (get_or xs (parent_of i) 0)) _ _ (le-ltb _ _ t)) ∙ r.same
+  rise_stays (suc f) r p t = grind (arith, nat_tests, r.same)
 
   pub rise_ends : (f : ℕ) → Rising xs₀ i₀ x xs i k f → i ≤ 0 → placed xs i x k ≡ pushed xs₀ i₀ x
   unfolding rise
   rise_ends zero r p = r.same
-  rise_ends (suc f) r p = sym (cond-false (ltb 0 i) _ _ (le-ltb 0 i p)) ∙ r.same
+  rise_ends (suc f) r p = grind (arith, nat_tests, r.same)
 
   -- no more than 64 looks are made
   pub rise_few : (f : ℕ) → Rising xs₀ i₀ x xs i k f → i₀ < length xs₀ → i₀ < 2 ^ 64 → i < length xs → k ≤ 64
@@ -48,24 +42,17 @@ module _ {xs₀ : List ℕ} {n x : ℕ} {xs : List ℕ} {i k : ℕ} where
   pub sink_goes : (f c : ℕ) → Sinking xs₀ n x xs i k f → 2 * i + 1 < n → c ≡ lesser xs n i → get_or xs c 0 < x → (f : ℕ) × Sinking xs₀ n x (set xs i (get_or xs c 0)) c (k + 1) f
   unfolding sink
   sink_goes zero c r p e t = let low = r.enough in absurd (omega arith)
-  sink_goes (suc f) c r p e t =
-      rw e (
-        f,
-        record {
-          enough = omega (arith, r.enough, (lesser_child xs n i p).from);
-          same = sym (cond-true (ltb (2 * i + 1) n) _ _ (lt-ltb _ _ p) ∙ cond-true (ltb (get_or xs (lesser xs n i) 0) x) _ _ (lt-ltb _ _ (rw e at t))) ∙ r.same;
-        },
-      )
+  sink_goes (suc f) c r p e t = (f, record { enough = omega (arith, r.enough, (lesser_child xs n i p).from); same = grind (arith, nat_tests, r.same) })
 
   pub sink_stays : (f c : ℕ) → Sinking xs₀ n x xs i k f → 2 * i + 1 < n → c ≡ lesser xs n i → x ≤ get_or xs c 0 → placed xs i x (k + 1) ≡ sink n xs₀ n 0 x 0
   unfolding sink
   sink_stays zero c r p e t = let low = r.enough in absurd (omega arith)
-  sink_stays (suc f) c r p e t = sym (cond-true (ltb (2 * i + 1) n) _ _ (lt-ltb _ _ p) ∙ cond-false (ltb (get_or xs (lesser xs n i) 0) x) _ _ (le-ltb _ _ (rw e at t))) ∙ r.same
+  sink_stays (suc f) c r p e t = grind (arith, nat_tests, r.same)
 
   pub sink_ends : (f : ℕ) → Sinking xs₀ n x xs i k f → n ≤ 2 * i + 1 → placed xs i x k ≡ sink n xs₀ n 0 x 0
   unfolding sink
   sink_ends zero r p = r.same
-  sink_ends (suc f) r p = sym (cond-false (ltb (2 * i + 1) n) _ _ (le-ltb _ _ p)) ∙ r.same
+  sink_ends (suc f) r p = grind (arith, nat_tests, r.same)
 
   -- no more than 64 looks are made
   pub sink_few : (f : ℕ) → Sinking xs₀ n x xs i k f → n ≤ length xs₀ → n ≤ 2 ^ 64 → n ≤ length xs → i < n → k ≤ 64

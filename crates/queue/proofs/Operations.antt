@@ -1,7 +1,8 @@
 -- What every row of pushes and pops keeps.
-use Rattle.std.proofs.Common.{◌≡◌, ℕ, ◌+◌, ◌≤◌, ◌&&◌, ltb, leb, List, [], ◌∷◌, length, get_or, take, sum_by, refl, arith, ltb-false, ltb-true, leb-true}
+use Rattle.std.proofs.Common.{◌≡◌, ℕ, ◌+◌, ◌≤◌, ◌&&◌, ltb, leb, List, [], ◌∷◌, length, get_or, take, sum_by, refl, arith, ltb-true, leb-true}
 use Rattle.std.proofs.lemmas.List.Sums.{sum_by-cons}
 use Rattle.std.proofs.lemmas.Bool.{cond_both, and_parts}
+use Rattle.std.proofs.lemmas.Bool.Decides.{nat_tests}
 use Rattle.queue.specs.Heap.{Heap}
 use Rattle.queue.specs.Rows.{Operation, Push, Pop, Row, operated, operated_all, begun, pushes, LosesNothing, KeepsOrder, RefusesNone}
 use Rattle.queue.proofs.Laws.{pushed_length, popped_length, after_push, after_pop}
@@ -48,12 +49,8 @@ record Fits (o : Operation) (r s : Row) : Type 0 where
 
 fits : (o : Operation) (r : Row) → r.count + length (pushes (o ∷ [])) ≤ length r.entries → Fits o r (operated r o)
 unfolding operated
-fits (Push x) r room = cond_both (ltb r.count (length r.entries)) _ _ (Fits (Push x) r)
-    (λ _. record { count = omega arith; taken = λ g. omega (arith, sum_by-cons g x r.taken) })
-    (λ t. absurd (omega (arith, ltb-false _ _ t)))
-fits Pop r room = cond_both (ltb 0 r.count && leb r.count (length r.entries)) _ _ (Fits Pop r)
-    (λ _. record { count = omega arith; taken = λ g. omega arith })
-    (λ _. record { count = omega arith; taken = λ g. omega arith })
+fits (Push x) r room = record { count = grind (arith, nat_tests); taken = λ g. grind (arith, nat_tests, sum_by-cons g x r.taken) }
+fits Pop r room = record { count = grind (arith, nat_tests); taken = λ g. grind (arith, nat_tests) }
 
 all_taken : (os : List Operation) (r : Row) → r.count + length (pushes os) ≤ length r.entries → (g : ℕ → ℕ) → sum_by g (operated_all r os).taken ≡ sum_by g r.taken + sum_by g (pushes os)
 all_taken [] r room g = omega arith

@@ -1,18 +1,20 @@
 -- What `rise` and `sink` do to any list: the order, the content, the rest, the length, and how many looks they make.
-use Rattle.std.proofs.Common.{◌≡◌, ℕ, zero, suc, ◌+◌, ◌*◌, ◌^◌, ◌<◌, ◌≤◌, ltb, List, length, get_or, drop, set, sum_by, sym, ap, ◌∙◌, mul-le-mul_right, mul_assoc, add-one, arith, length-set, get_or-set_other, ltb-false, ltb-true}
+use Rattle.std.proofs.Common.{◌≡◌, ℕ, zero, suc, ◌+◌, ◌*◌, ◌^◌, ◌<◌, ◌≤◌, ltb, List, length, get_or, take, set, sum_by, sym, ap, ◌∙◌, mul-le-mul_right, mul_assoc, add-one, arith, length-set, get_or-set_other, ltb-false, ltb-true}
 use native.Mathlib.Nat.{pow-succ'}
-use Rattle.std.proofs.lemmas.List.{drop-set-lt}
+use Rattle.std.proofs.Math.Seq.{take-set-lt}
+use Rattle.std.proofs.lemmas.List.{length-take, get_or-take}
 use Rattle.std.proofs.lemmas.List.Sums.{sum_by-set}
 use Rattle.std.proofs.lemmas.Bool.{cond_both}
-use Rattle.queue.specs.Heap.{Sifted, placed, parent_of, rise, lesser, sink}
-use Rattle.queue.proofs.Order.{Ordered, Gap, Under, Over, closes, gap_up, under_up, gap_down, over_down, lesser_child}
+use Rattle.std.proofs.lemmas.Bool.Decides.{nat_tests}
+use Rattle.queue.specs.Heap.{Heap, Rest, Sifted, placed, parent_of, rise, lesser, sink}
+use Rattle.queue.proofs.Order.{Gap, Under, Over, closes, gap_up, under_up, gap_down, over_down, lesser_child}
 
 -- r is xs with x put in for the entry at i, moved about among the first n only, and k looks are made before;
 -- given Ready the first n are in order, and given Few m there are at most m looks more
 pub record Mended (xs : List ℕ) (i n x k : ℕ) (Ready : Type 0) (Few : ℕ → Type 0) (r : Sifted) : Type 0 where
-  pub content : (g : ℕ → ℕ) → sum_by g r.entries + g (get_or xs i 0) ≡ sum_by g xs + g x
-  pub rest : drop n r.entries ≡ drop n xs
-  pub order : Ready → Ordered r.entries n
+  pub content : (g : ℕ → ℕ) → sum_by g (take n r.entries) + g (get_or xs i 0) ≡ sum_by g (take n xs) + g x
+  pub rest : Rest xs n r.entries
+  pub order : Ready → Heap r.entries n
   pub least : k ≤ r.looks
   pub most : (m : ℕ) → Few m → r.looks ≤ k + m
 
@@ -20,12 +22,16 @@ pub record Mended (xs : List ℕ) (i n x k : ℕ) (Ready : Type 0) (Few : ℕ �
 abbrev Fewer : (ℕ → Type 0) → ℕ → Type 0
 Fewer Few m = (l : ℕ) × (l + 1 ≡ m) × Few l
 
+-- y is written into the place i
+written : (xs : List ℕ) (i n : ℕ) → i < length xs → i < n → (g : ℕ → ℕ) (y : ℕ) → sum_by g (take n (set xs i y)) + g (get_or xs i 0) ≡ sum_by g (take n xs) + g y
+written xs i n long inside g y = rw (take-set-lt n xs i y inside) (omega (arith, sum_by-set g (take n xs) i y 0 (simp length-take (omega arith)), ap g (get_or-take n xs i 0 inside)))
+
 module _ (xs : List ℕ) (i n x k : ℕ) (long : i < length xs) (inside : i < n) {Ready : Type 0} {Few : ℕ → Type 0} where
   -- x stays at i after l looks
   stays : (l : ℕ) → k ≤ l → ((m : ℕ) → Few m → l ≤ k + m) → (Ready → Gap xs i n) → (Ready → Under xs i n x) → (Ready → Over xs i x) → Mended xs i n x k Ready Few (placed xs i x l)
   stays l least most gap under over = record {
-    content = λ g. sum_by-set g xs i x 0 long;
-    rest = drop-set-lt n xs i x inside;
+    content = λ g. written xs i n long inside g x;
+    rest = λ m a. get_or-set_other xs i m x 0 (omega arith);
     order = λ ready. closes xs i x long n (gap ready) (under ready) (over ready);
     least = least;
     most = most;
@@ -33,9 +39,9 @@ module _ (xs : List ℕ) (i n x k : ℕ) (long : i < length xs) (inside : i < n)
 
   -- the entry at j is written into the free place i after one look, and j is free then
   goes : (j : ℕ) {Ready' : Type 0} {Few' : ℕ → Type 0} {r : Sifted} → (j ≡ i → ⊥) → (Ready → Ready') → ((m : ℕ) → Few m → Fewer Few' m) → Mended (set xs i (get_or xs j 0)) j n x (k + 1) Ready' Few' r → Mended xs i n x k Ready Few r
-  goes j other ready fewer w = record {
-    content = λ g. omega (arith, w.content g, sum_by-set g xs i (get_or xs j 0) 0 long, ap g (get_or-set_other xs i j (get_or xs j 0) 0 other));
-    rest = w.rest ∙ drop-set-lt n xs i (get_or xs j 0) inside;
+  goes j other ready fewer w = let y = get_or xs j 0 in record {
+    content = λ g. omega (arith, w.content g, written xs i n long inside g y, ap g (get_or-set_other xs i j y 0 other));
+    rest = λ m a. w.rest m a ∙ get_or-set_other xs i m y 0 (omega arith);
     order = λ is. w.order (ready is);
     least = omega (arith, w.least);
     most = λ m few. let f = fewer m few in omega (arith, w.most f.0 f.2, f.1);
@@ -74,7 +80,7 @@ rise_mends (suc f) xs i n x k long inside low =
     (λ m few. halves i m pos few)
     (rise_mends f (set xs i (get_or xs j 0)) j n x (k + 1) (simp length-set (omega arith)) (omega arith) (omega arith)))
     (λ s. stays xs i n x k long inside (k + 1) (omega arith) (λ m few. omega (arith, (halves i m pos few).1)) (λ is. is.0) (λ is. is.1)
-    (λ is p a b. let e : p ≡ j = omega arith in omega (arith, ltb-false _ _ s, ap (λ m. get_or xs m 0) e))))
+    (λ is p a b. grind (arith, ltb-false _ _ s))))
     (λ t. stays xs i n x k long inside k (omega arith) (λ m few. omega arith) (λ is. is.0) (λ is. is.1) (λ is p a b. absurd (omega (arith, ltb-false _ _ t))))
 
 pub sink_mends : (f : ℕ) (xs : List ℕ) (n i x k : ℕ) → n ≤ length xs → i < n → n ≤ i + f → Lowered xs i n x k (sink f xs n i x k)
@@ -102,21 +108,9 @@ sink_mends (suc f) xs n i x k long inside low =
 pub rise_length : (f : ℕ) (xs : List ℕ) (i x k : ℕ) → length (rise f xs i x k).entries ≡ length xs
 unfolding rise
 rise_length zero xs i x k = length-set xs i x
-rise_length (suc f) xs i x k =
-    let P : Sifted → Type 0 = λ r. length r.entries ≡ length xs in
-    cond_both (ltb 0 i) _ _ P
-    (λ _. cond_both (ltb x (get_or xs (parent_of i) 0)) _ _ P
-    (λ _. rise_length f _ _ _ _ ∙ length-set xs i _)
-    (λ _. length-set xs i x))
-    (λ _. length-set xs i x)
+rise_length (suc f) xs i x k = let ys = set xs i (get_or xs (parent_of i) 0) in grind (arith, nat_tests, length-set xs i x, length-set xs i (get_or xs (parent_of i) 0), rise_length f ys (parent_of i) x (k + 1))
 
 pub sink_length : (f : ℕ) (xs : List ℕ) (n i x k : ℕ) → length (sink f xs n i x k).entries ≡ length xs
 unfolding sink
 sink_length zero xs n i x k = length-set xs i x
-sink_length (suc f) xs n i x k =
-    let P : Sifted → Type 0 = λ r. length r.entries ≡ length xs in
-    cond_both (ltb (2 * i + 1) n) _ _ P
-    (λ _. cond_both (ltb (get_or xs (lesser xs n i) 0) x) _ _ P
-    (λ _. sink_length f _ _ _ _ _ ∙ length-set xs i _)
-    (λ _. length-set xs i x))
-    (λ _. length-set xs i x)
+sink_length (suc f) xs n i x k = let c = lesser xs n i in let y = get_or xs c 0 in grind (arith, nat_tests, length-set xs i x, length-set xs i y, sink_length f (set xs i y) n c x (k + 1))

@@ -41,11 +41,11 @@ pub record Row : Type 0 where
 unfoldable pub operated : Row → Operation → Row
 operated r (Push x) =
     if nat_lt r.count (length r.entries)
-    then record { entries = (pushed r.entries r.count x).entries; count = r.count + 1; taken = x ∷ r.taken; given = r.given }
+    then record r { entries = (pushed r.entries r.count x).entries; count = r.count + 1; taken = x ∷ r.taken }
     else r
 operated r Pop =
     if nat_lt 0 r.count && nat_le r.count (length r.entries)
-    then record { entries = (popped r.entries r.count).entries; count = r.count - 1; taken = r.taken; given = slice_index r.entries 0 ∷ r.given }
+    then record r { entries = (popped r.entries r.count).entries; count = r.count - 1; given = slice_index r.entries 0 ∷ r.given }
     else r
 
 abbrev pub operated_all : Row → List Operation → Row

@@ -1,4 +1,4 @@
-// An entry as one word of the lent slice.
+// An entry as one word of the lent slice: to compare two takes one step.
 ghost use Rattle.queue.specs.Calls.{Coded};
 
 use crate::Entry;

@@ -23,11 +23,13 @@ impl Queue<'_> {
     pub(crate) fn sift_down(&mut self, coded: u64) -> u32
         requires { (0 < length self.old.words.now) × (self.old.len ≤ length self.old.words.now) }
         ensures same_reference { self.new.words.ghost_name ≡ self.old.words.ghost_name }
-        ensures words { sifted self.new.words.now result ≡ sink self.old.len self.old.words.now self.old.len 0 coded 0 }
+        ensures words { sifted self.new.words.now result ≡
+            sink self.old.len self.old.words.now self.old.len 0 coded 0 }
         ensures len { self.new.len ≡ self.old.len }
     {
         let parents = self.len / 2;
         let mut looks = 0;
+        // The free place doubles at each look, so no range counts it.
         let mut free = 0;
         while free < parents {
             let child = self.lesser_child(free);

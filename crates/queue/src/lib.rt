@@ -30,6 +30,7 @@ pub struct Popped {
 }
 
 // A heap in a part of a lent slice: the entries stand in the first `len` words.
+// std's `BinaryHeap` would allocate, and counts no looks.
 #[derive(Drop)]
 pub struct Queue<'a> {
     pub words: &'a mut [u64],

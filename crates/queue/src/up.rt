@@ -9,10 +9,12 @@ impl Queue<'_> {
     pub(crate) fn sift_up(&mut self, coded: u64) -> u32
         requires { self.old.len < length self.old.words.now }
         ensures same_reference { self.new.words.ghost_name ≡ self.old.words.ghost_name }
-        ensures words { sifted self.new.words.now result ≡ pushed self.old.words.now self.old.len coded }
+        ensures words { sifted self.new.words.now result ≡
+            pushed self.old.words.now self.old.len coded }
         ensures len { self.new.len ≡ self.old.len }
     {
         let mut looks = 0;
+        // The free place halves at each look, so no range counts it.
         let mut free = self.len;
         while free > 0 {
             let parent = (free - 1) / 2;

@@ -45,17 +45,10 @@ fn sorted(heap: Global, entries: &[Entry]) -> Result<Vec<Entry>, AllocError> {
 // Whether the entries come out of the queue in the order of a sort, with few looks at each call.
 fn comes_sorted(words: &mut [u64], entries: &[Entry], sorted: &[Entry]) -> bool {
     let mut queue = Queue::new(words, 0);
-    for entry in entries {
-        if !queue.push(*entry).is_some_and(|looks| looks <= MOST_LOOKS) {
-            return false;
-        }
-    }
-    for entry in sorted {
-        if !queue.pop().is_some_and(|popped| popped.entry == *entry && popped.looks <= MOST_LOOKS) {
-            return false;
-        }
-    }
-    true
+    entries.iter().all(|entry| { queue.push(*entry).is_some_and(|looks| looks <= MOST_LOOKS) })
+        && sorted.iter().all(|entry| {
+            queue.pop().is_some_and(|popped| popped.entry == *entry && popped.looks <= MOST_LOOKS)
+        })
 }
 
 fn main(rt: HostRuntime) -> std::io::Result<()> {

@@ -1,7 +1,6 @@
-use Rattle.std.proofs.Common.{get_or, sym, subst, arith}
+use Rattle.std.proofs.Common.{sym, subst, arith}
 use Rattle.queue.specs.Limits.{most_looks}
 use Rattle.queue.proofs.Laws.{AfterPop, after_pop}
-use Rattle.queue.proofs.Words.{by_level}
 use Rattle.queue.proofs.Queue.pop.Goals as goal
 
 pub returns : goal.returns
@@ -15,7 +14,7 @@ returns c =
       same_reference = kept.same_reference;
       after = record { some = omega arith; within = omega arith; first = first; after = kept.words };
       len = kept.len;
-      lowest = λ h k b. by_level _ _ (get_or xs k 0) (omega arith) (omega (arith, law.least h k b));
+      lowest = λ h k b. grind (arith, law.least h k b, c.from.ensures.level, c.from.ensures.cell);
       order = rw kept.len law.order;
       content = rw (kept.len, first) law.content;
       rest = law.rest;
