@@ -1,4 +1,3 @@
-pub mod Cuts
 pub mod Decimal
 pub mod Edits
 pub mod Holding

@@ -32,8 +32,11 @@ numbers_are_decimal word n = (numeral word n, λ v. sym (is_number word v.some (
 fits : (n : ℕ) → n ≤ largest → n < 2 ^ 64
 fits n small = omega arith
 
-pub decimal_digits : (n : ℕ) → n ≤ largest → all_ascii_digits (decimal n) ≡ true
+decimal_digits : (n : ℕ) → n ≤ largest → all_ascii_digits (decimal n) ≡ true
 decimal_digits n small = digits_decimal own n (fits n small)
+
+pub decimal_at : (n : ℕ) → n ≤ largest → (k : ℕ) → k < length (decimal n) → IsInRange 48 57 (get_or (decimal n) k 0)
+decimal_at n small = digits_decimal by_place n (fits n small)
 
 pub written_numbers_read_back : WrittenNumbersReadBack
 written_numbers_read_back n small =

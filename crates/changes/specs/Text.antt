@@ -1,33 +1,14 @@
 -- The text of a row of changes: its lines and words, the numbers in it, and what each line asks for.
-use Rattle.std.specs.Prelude.{◌≡◌, ℕ, ◌+◌, ◌-◌, ◌*◌, ◌^◌, ◌<◌, min, Bool, cond, ◌&&◌, ◌||◌, List, [], ◌∷◌, ◌++◌, length, take, Some, None, codes, Option, ◌==◌, ◌≢◌, nat_le, nat_lt, slice_index}
+use Rattle.std.specs.Prelude.{ℕ, ◌+◌, ◌-◌, ◌*◌, ◌^◌, min, Bool, cond, ◌&&◌, ◌||◌, List, [], ◌∷◌, ◌++◌, length, take, Some, None, codes, Option, ◌==◌, nat_le, nat_lt, slice_index}
+use Rattle.std.specs.List.{slice_split}
 use Rattle.std.specs.Str.{all_ascii_digits, bytes_eq}
 use Rattle.changes.specs.declared.asked.Change.{Change}
 use Rattle.changes.specs.declared.asked.Change.TheVariants.{Height, Rain, Drain}
 use Rattle.changes.specs.declared.asked.Asked.{Asked}
 
--- x in front of the first piece
-abbrev pub put_before : ℕ → List (List ℕ) → List (List ℕ)
-put_before x [] = (x ∷ []) ∷ []
-put_before x (p ∷ ps) = (x ∷ p) ∷ ps
-
 -- the pieces of a text, cut at each byte `mark`, which is in none of them
 abbrev pub pieces : ℕ → List ℕ → List (List ℕ)
-pieces mark [] = [] ∷ []
-pieces mark (x ∷ xs) = cond (x == mark) ([] ∷ pieces mark xs) (put_before x (pieces mark xs))
-
--- the pieces after a mark, if there is one
-abbrev pub pieces_after : ℕ → Option (List ℕ) → List (List ℕ)
-pieces_after mark None = []
-pieces_after mark (Some xs) = pieces mark xs
-
--- no byte before n is the mark
-abbrev pub NoneBefore : ℕ → List ℕ → ℕ → Type 0
-NoneBefore mark xs n = (k : ℕ) → k < n → slice_index xs k ≢ mark
-
--- the place of the first mark, if there is one
-abbrev pub FirstAt : ℕ → List ℕ → Option ℕ → Type 0
-FirstAt mark xs None = NoneBefore mark xs (length xs)
-FirstAt mark xs (Some n) = (n < length xs) × NoneBefore mark xs n × (slice_index xs n ≡ mark)
+pieces mark xs = slice_split (λ x. x == mark) xs
 
 -- lines are parted by a newline, and words by one space
 abbrev pub lines : List ℕ → List (List ℕ)

@@ -4,10 +4,8 @@ ghost use Rattle.changes.specs.Text.{asked_by, row_of};
 
 mod line;
 mod number;
-mod pieces;
 
-use self::line::{change_in, is_passed_over};
-use self::pieces::{chomp, cut};
+use self::line::{change_in, chomp, is_passed_over};
 use crate::asked::Asked;
 use std::alloc::{AllocError, Global};
 
@@ -31,15 +29,8 @@ pub fn read_row(heap: Global, text: &[u8]) -> Result<Vec<Asked>, AllocError>
     ensures { IfOk result (λ v. v.items ≡ row_of text.now) }
 {
     let mut row = Vec::new(heap);
-    let mut rest = text;
-    let mut number = 1;
-    'lines: loop {
-        let (line, after) = cut(rest, b'\n');
-        push_line(&mut row, number, line)?;
-        let Some(more) = after else {
-            return Ok(row);
-        };
-        rest = more;
-        number += 1;
+    'lines: for (i, line) in text.split(|byte| *byte == b'\n').enumerate() {
+        push_line(&mut row, i + 1, line)?;
     }
+    Ok(row)
 }

@@ -1,40 +1,39 @@
 // One line of a row of changes.
 ghost use Rattle.std.specs.Prelude.{◌≡◌};
-ghost use Rattle.std.specs.Str.{bytes_eq};
-ghost use Rattle.changes.specs.Text.{words, passed_over, change_named, change_of};
+ghost use Rattle.changes.specs.Text.{words, chomped, passed_over, number_of, change_read, change_of};
 
 use super::number::read_number;
-use super::pieces::cut;
 use crate::asked::Change;
 use model::units::{Amount, Cell, Height};
+
+// A line without the carriage return at its end.
+pub fn chomp(line: &[u8]) -> &[u8]
+    ensures { result.now ≡ chomped line.now }
+{
+    match line {
+        [front @ .., b'\r'] => front,
+        _ => line,
+    }
+}
 
 // Whether a line does not count: a blank one, or a remark.
 pub fn is_passed_over(line: &[u8]) -> bool
     ensures { result ≡ passed_over line.now }
 {
-    line.is_empty() || line[0] == b'#'
+    matches!(line, [] | [b'#', ..])
 }
 
-// Whether a word is this name.
-fn is(word: &[u8], name: &[u8]) -> bool
-    ensures { result ≡ bytes_eq word.now name.now }
+// The change that a name and two words ask for, if there is such a one.
+fn change_named(name: &[u8], cell: &[u8], value: &[u8]) -> Option<Change>
+    ensures { result ≡ change_read name.now (number_of cell.now) (number_of value.now) }
 {
-    word == name
-}
-
-// The change that a name and two numbers ask for, if there is such a one.
-fn change_named(name: &[u8], cell: u32, number: u32) -> Option<Change>
-    ensures { result ≡ change_named name.now cell number }
-{
-    let cell = Cell(cell);
-    if is(name, b"height") {
-        Some(Change::Height(cell, Height(number)))
-    } else if is(name, b"rain") {
-        Some(Change::Rain(cell, Amount(u64::from(number))))
-    } else if is(name, b"drain") && number <= 1 {
-        Some(Change::Drain(cell, number == 1))
-    } else {
-        None
+    let at = Cell(read_number(cell)?);
+    let number = read_number(value)?;
+    match name {
+        b"height" => Some(Change::Height(at, Height(number))),
+        b"rain" => Some(Change::Rain(at, Amount(u64::from(number)))),
+        b"drain" if number <= 1 => Some(Change::Drain(at, number == 1)),
+        _ => None,
     }
 }
 
@@ -42,11 +41,9 @@ fn change_named(name: &[u8], cell: u32, number: u32) -> Option<Change>
 pub fn change_in(line: &[u8]) -> Option<Change>
     ensures { result ≡ change_of (words line.now) }
 {
-    let (name, rest) = cut(line, b' ');
-    let (cell, rest) = cut(rest?, b' ');
-    let (value, rest) = cut(rest?, b' ');
-    match rest {
-        Some(_) => None,
-        None => change_named(name, read_number(cell)?, read_number(value)?),
+    let mut words = line.split(|byte| *byte == b' ');
+    match (words.next(), words.next(), words.next(), words.next()) {
+        (Some(name), Some(cell), Some(value), None) => change_named(name, cell, value),
+        _ => None,
     }
 }
