@@ -3,6 +3,7 @@ use Rattle.std.proofs.Common.{◌≡◌, ℕ, ◌*◌, ◌≤◌, cond, eqb, Lis
 use Rattle.std.proofs.lemmas.List.{drop_at, get_or_append_left}
 use Rattle.std.proofs.lemmas.Bool.Decides.{nat_tests}
 use Rattle.model.specs.Bytes.{count}
+use Rattle.model.specs.Slices.{Contents}
 use Rattle.model.specs.Terrain.{terrain}
 use Rattle.model.specs.WellFormed.{WellFormed}
 use Rattle.flood.specs.Flooded.{table_of, Flooded}
@@ -41,46 +42,47 @@ module _ (bs : List ℕ) (wf : WellFormed bs) where
   unfolding kept_words
   words_front rest = simp append_assoc
 
-  module _ (ls fl am wk ls' fl' am' wk' : List ℕ) (t : Tabled bs ls fl am wk ls' fl' am' wk') where
-    work_is : wk' ≡ kept_words ++ drop (3 * count bs) wk
-    work_is = t.written.work ∙ words_front (drop (3 * count bs) wk)
+  module _ (old new : Contents) (t : Tabled bs old new) where
+    work_is : new.work ≡ kept_words ++ drop (3 * count bs) old.work
+    work_is = t.written.work ∙ words_front (drop (3 * count bs) old.work)
 
-    pub behind_levels : drop (count bs) ls' ≡ drop (count bs) ls
-    behind_levels = behind ls ls' (table_of bs).levels (count bs) (table_long bs wf).levels t.written.levels
+    -- what they held behind the table still stands there
+    pub behind_levels : drop (count bs) new.levels ≡ drop (count bs) old.levels
+    behind_levels = behind old.levels new.levels (table_of bs).levels (count bs) (table_long bs wf).levels t.written.levels
 
-    pub behind_flow : drop (count bs) fl' ≡ drop (count bs) fl
-    behind_flow = behind fl fl' (table_of bs).flow (count bs) (table_long bs wf).flow t.written.flow
+    pub behind_flow : drop (count bs) new.flow ≡ drop (count bs) old.flow
+    behind_flow = behind old.flow new.flow (table_of bs).flow (count bs) (table_long bs wf).flow t.written.flow
 
-    pub behind_amounts : drop (count bs) am' ≡ drop (count bs) am
-    behind_amounts = behind am am' (table_amounts bs) (count bs) (long_amounts bs wf) t.poured
+    pub behind_amounts : drop (count bs) new.amounts ≡ drop (count bs) old.amounts
+    behind_amounts = behind old.amounts new.amounts (table_amounts bs) (count bs) (long_amounts bs wf) t.poured
 
-    pub behind_work : drop (3 * count bs) wk' ≡ drop (3 * count bs) wk
-    behind_work = behind wk wk' kept_words (3 * count bs) words_long work_is
+    pub behind_work : drop (3 * count bs) new.work ≡ drop (3 * count bs) old.work
+    behind_work = behind old.work new.work kept_words (3 * count bs) words_long work_is
 
     -- there is room for the table of this model
-    pub tabled_room : room_fault (count bs) ls' fl' am' wk' ≡ None
+    pub tabled_room : room_fault (count bs) new ≡ None
     tabled_room =
-        let a = enough ls' (table_of bs).levels _ (count bs) (table_long bs wf).levels t.written.levels in
-        let b = enough fl' (table_of bs).flow _ (count bs) (table_long bs wf).flow t.written.flow in
-        let c = enough am' (table_amounts bs) _ (count bs) (long_amounts bs wf) t.poured in
-        let d = enough wk' kept_words _ (3 * count bs) words_long work_is in
+        let a = enough new.levels (table_of bs).levels _ (count bs) (table_long bs wf).levels t.written.levels in
+        let b = enough new.flow (table_of bs).flow _ (count bs) (table_long bs wf).flow t.written.flow in
+        let c = enough new.amounts (table_amounts bs) _ (count bs) (long_amounts bs wf) t.poured in
+        let d = enough new.work kept_words _ (3 * count bs) words_long work_is in
         grind (arith, nat_tests)
 
     -- a table that another model leaves behind it, from the first slices on
-    pub tabled_on : (cs ls'' fl'' am'' wk'' : List ℕ) → count cs ≡ count bs → Tabled cs ls' fl' am' wk' ls'' fl'' am'' wk'' → Tabled cs ls fl am wk ls'' fl'' am'' wk''
-    tabled_on cs ls'' fl'' am'' wk'' same u =
+    pub tabled_on : (cs : List ℕ) (last : Contents) → count cs ≡ count bs → Tabled cs new last → Tabled cs old last
+    tabled_on cs last same u =
         let s = table_of cs in
         let thrice : 3 * count cs ≡ 3 * count bs = omega arith in record {
           written = record {
-            levels = u.written.levels ∙ ap (λ x. s.levels ++ x) (ap (λ k. drop k ls') same ∙ (behind_levels ∙ ap (λ k. drop k ls) (sym same)));
-            flow = u.written.flow ∙ ap (λ x. s.flow ++ x) (ap (λ k. drop k fl') same ∙ (behind_flow ∙ ap (λ k. drop k fl) (sym same)));
-            work = u.written.work ∙ ap (λ x. s.queue ++ (s.order ++ (s.places ++ x))) (ap (λ k. drop k wk') thrice ∙ (behind_work ∙ ap (λ k. drop k wk) (sym thrice)));
+            levels = u.written.levels ∙ ap (λ x. s.levels ++ x) (ap (λ k. drop k new.levels) same ∙ (behind_levels ∙ ap (λ k. drop k old.levels) (sym same)));
+            flow = u.written.flow ∙ ap (λ x. s.flow ++ x) (ap (λ k. drop k new.flow) same ∙ (behind_flow ∙ ap (λ k. drop k old.flow) (sym same)));
+            work = u.written.work ∙ ap (λ x. s.queue ++ (s.order ++ (s.places ++ x))) (ap (λ k. drop k new.work) thrice ∙ (behind_work ∙ ap (λ k. drop k old.work) (sym thrice)));
           };
-          poured = u.poured ∙ ap (λ x. table_amounts cs ++ x) (ap (λ k. drop k am') same ∙ (behind_amounts ∙ ap (λ k. drop k am) (sym same)));
+          poured = u.poured ∙ ap (λ x. table_amounts cs ++ x) (ap (λ k. drop k new.amounts) same ∙ (behind_amounts ∙ ap (λ k. drop k old.amounts) (sym same)));
         }
 
     -- the same, said of the slices as they are now
-    pub tabled_now : Tabled bs ls' fl' am' wk' ls' fl' am' wk'
+    pub tabled_now : Tabled bs new new
     tabled_now =
         let s = table_of bs in record {
           written = record {
@@ -92,10 +94,10 @@ module _ (bs : List ℕ) (wf : WellFormed bs) where
         }
 
     -- all that draining promises from the start
-    pub tabled_promise : Promise bs ls fl am wk ls' fl' am' wk' (drained_of bs)
+    pub tabled_promise : Promise bs old new (drained_of bs)
     tabled_promise =
-        let flooded : Flooded bs ls fl wk ls' fl' wk' (table_of bs).looks = record { written = t.written; counted = refl; right = models_right (terrain bs) (sound bs wf); few = (models_few_looks (terrain bs) (sound bs wf)).1 } in
-        promised bs wf ls fl am wk ls' fl' am' wk' (drained_of bs) (table_of bs).looks flooded refl t.poured refl refl
+        let flooded : Flooded bs old.levels old.flow old.work new.levels new.flow new.work (table_of bs).looks = record { written = t.written; counted = refl; right = models_right (terrain bs) (sound bs wf); few = (models_few_looks (terrain bs) (sound bs wf)).1 } in
+        promised bs wf old new (drained_of bs) (table_of bs).looks flooded refl t.poured refl refl
 
 -- slices that hold two tables, one after the other, differ in so many levels as the tables
 pub changed_levels : (bs cs ls ls' rest rest' : List ℕ) → WellFormed bs → WellFormed cs → count cs ≡ count bs → ls ≡ (table_of bs).levels ++ rest → ls' ≡ (table_of cs).levels ++ rest' →
@@ -112,5 +114,5 @@ pub none_changed : (xs : List ℕ) (n : ℕ) → levels_changed xs xs n ≡ 0
 none_changed xs n = sum_zero (differs xs xs) n (λ c a. grind (arith, nat_tests))
 
 -- what draining leaves is the table
-pub first_tabled : (bs ls fl am wk ls' fl' am' wk' : List ℕ) (d : Drained) → Promise bs ls fl am wk ls' fl' am' wk' d → Tabled bs ls fl am wk ls' fl' am' wk'
-first_tabled bs ls fl am wk ls' fl' am' wk' d p = record { written = p.written; poured = p.poured }
+pub first_tabled : (bs : List ℕ) (old new : Contents) (d : Drained) → Promise bs old new d → Tabled bs old new
+first_tabled bs old new d p = record { written = p.written; poured = p.poured }

@@ -1,7 +1,6 @@
 pub mod Decimal
 pub mod Edits
 pub mod Holding
-pub mod Made
 pub mod Meant
 pub mod Numerals
 pub mod OnWay

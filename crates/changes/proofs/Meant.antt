@@ -11,9 +11,8 @@ use Rattle.changes.specs.declared.asked.Change.TheVariants.{Height, Rain, Drain}
 use Rattle.changes.specs.Applied.{allowed, edited, bytes_after}
 use Rattle.changes.specs.Meaning.{ChangedOne, AllowedIfInRange, ChangesReadBack, RefusedChangesNothing, RowsKeepModels, RainChangesNoLevel}
 use Rattle.changes.proofs.Holding.{none_changed}
-use Rattle.changes.proofs.Made.{rain_stays}
-use Rattle.changes.proofs.Outcomes.{made_bytes}
-use Rattle.changes.proofs.RainChange.{leaves_all}
+use Rattle.changes.proofs.Outcomes.{made_bytes, refused_bytes}
+use Rattle.changes.proofs.RainChange.{leaves_all, rain_stays}
 use Rattle.changes.proofs.RowLoop.{row_kept}
 
 pub allowed_if_in_range : AllowedIfInRange
@@ -31,7 +30,7 @@ changes_read_back bs x wf may = subst (ChangedOne bs x) (sym (made_bytes bs x ma
 
 pub refused_changes_nothing : RefusedChangesNothing
 refused_changes_nothing bs None not = refl
-refused_changes_nothing bs (Some x) not = ap (λ b. cond b (edited bs x) bs) not
+refused_changes_nothing bs (Some x) not = refused_bytes bs x not
 
 pub rows_keep_models : RowsKeepModels
 rows_keep_models bs row k wf =

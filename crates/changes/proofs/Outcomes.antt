@@ -1,67 +1,76 @@
 -- What comes of a change that is refused, and of one that is made.
-use Rattle.std.proofs.Common.{◌≡◌, ℕ, ◌+◌, ◌*◌, ◌<◌, ◌≤◌, true, false, cond, ◌&&◌, ltb, leb, List, Some, None, Option, sym, ap, ◌∙◌, subst, ap₂, arith}
-use Rattle.std.proofs.lemmas.Bool.Decides.{nat_tests}
+use Rattle.std.proofs.Common.{◌≡◌, ℕ, ◌*◌, true, false, cond, List, Some, Option, Ok, Err, Result, sym, ap, ◌∙◌, subst, ap₂}
+use Rattle.model.specs.declared.edits.OutOfRange.{OutOfRange}
 use Rattle.model.specs.declared.grid.Grid.{Grid}
-use Rattle.model.specs.declared.units.Amount.{Amount}
-use Rattle.model.specs.declared.units.Cell.{Cell}
-use Rattle.model.specs.Bytes.{count, start, rain_at}
-use Rattle.model.specs.Edits.{put_four, fits_cell}
+use Rattle.model.specs.Bytes.{count}
+use Rattle.model.specs.Faults.{fault}
 use Rattle.model.specs.Of.{Sized}
+use Rattle.model.specs.Slices.{Contents}
 use Rattle.model.specs.WellFormed.{WellFormed}
+use Rattle.model.proofs.Taken.{well_formed, taken}
+use Rattle.amounts.specs.Draining.{room_fault}
 use Rattle.changes.specs.declared.answer.Changed.{Changed}
+use Rattle.changes.specs.declared.applying.Current.{Current}
 use Rattle.changes.specs.declared.asked.Change.{Change}
-use Rattle.changes.specs.declared.asked.Change.TheVariants.{Rain}
-use Rattle.changes.specs.Applied.{allowed, edited, changed_by, leaves_in, levels_between, outcome}
-use Rattle.changes.proofs.Edits.{cell_fits, edited_kept, kept_sized}
+use Rattle.changes.specs.Applied.{allowed, edited, changed_by, leaves_in, levels_between, outcome, Tabled}
+use Rattle.changes.specs.Current.{Drained, Changes, Drainable, Redrained}
+use Rattle.changes.proofs.Edits.{Kept, kept_count, kept_sized, changed_kept}
+use Rattle.changes.proofs.Holding.{tabled_room, changed_levels}
 
--- refused: nothing comes of it, and the bytes stay
-pub record Refusing (bs : List ℕ) (x : Change) : Type 0 where
-  pub nothing : None ≡ outcome bs (Some x)
-  pub stays : bs ≡ changed_by bs (Some x)
+-- what comes of a change that is made
+abbrev came_of : List ℕ → Change → Changed
+came_of bs x = record { leaves = record { 0 = leaves_in (changed_by bs (Some x)) }; levels = levels_between bs (changed_by bs (Some x)) }
 
-pub refusing : (bs : List ℕ) (x : Change) → allowed bs x ≡ false → Refusing bs x
-refusing bs x not =
-    let none : Option Changed = None in
-    record {
-      nothing = sym (ap (λ b. cond b (Some (record { leaves = record { 0 = leaves_in (changed_by bs (Some x)) }; levels = levels_between bs (changed_by bs (Some x)) })) none) not);
-      stays = sym (ap (λ b. cond b (edited bs x) bs) not);
-    }
-
--- made: the bytes have it, and what comes of it is what leaves then and how many levels change
 pub made_bytes : (bs : List ℕ) (x : Change) → allowed bs x ≡ true → changed_by bs (Some x) ≡ edited bs x
 made_bytes bs x may = ap (λ b. cond b (edited bs x) bs) may
 
-pub made_outcome : (bs : List ℕ) (x : Change) (d : Changed) → allowed bs x ≡ true → d.leaves.0 ≡ leaves_in (edited bs x) → d.levels ≡ levels_between bs (edited bs x) → Some d ≡ outcome bs (Some x)
+-- refused: the bytes stay
+pub refused_bytes : (bs : List ℕ) (x : Change) → allowed bs x ≡ false → changed_by bs (Some x) ≡ bs
+refused_bytes bs x not = ap (λ b. cond b (edited bs x) bs) not
+
+pub made_outcome : (bs : List ℕ) (x : Change) (d : Changed) → allowed bs x ≡ true → d.leaves.0 ≡ leaves_in (changed_by bs (Some x)) → d.levels ≡ levels_between bs (changed_by bs (Some x)) → Ok d ≡ outcome bs x
 made_outcome bs x d may l k =
-    let none : Option Changed = None in
-    let b = sym (made_bytes bs x may) in
-    ap₂ {C = Option Changed} (λ (u v : ℕ). Some (record { leaves = record { 0 = u }; levels = v })) (l ∙ ap leaves_in b) (k ∙ ap (levels_between bs) b) ∙
-    sym (ap (λ c. cond c (Some (record { leaves = record { 0 = leaves_in (changed_by bs (Some x)) }; levels = levels_between bs (changed_by bs (Some x)) })) none) may)
+    let none : Result Changed OutOfRange = Err (record {}) in
+    ap₂ {C = Result Changed OutOfRange} (λ (u v : ℕ). Ok (record { leaves = record { 0 = u }; levels = v })) l k ∙ sym (ap (λ b. cond b (Ok (came_of bs x)) none) may)
 
 -- a grid of the file's size has so many cells as the file
 pub cells_count : (g : Grid) (bs : List ℕ) → Sized g bs → g.w * g.h ≡ count bs
 cells_count g bs s = ap₂ ◌*◌ s.w s.h
 
--- a rain that was read is the rain of the cell
-pub old_is : (bs : List ℕ) (c x : ℕ) → c < count bs → Some x ≡ cond (ltb c (count bs)) (Some (rain_at bs c)) None → rain_at bs c ≡ x
-old_is bs c x a e = grind (arith, nat_tests)
+module _ (m n : Current) (s : Contents) (d : Drained m s s) (x : Change) (grid : n.grid ≡ m.grid) (bytes : n.bytes.now ≡ changed_by m.bytes.now (Some x)) where
+  wf : WellFormed m.bytes.now
+  wf = well_formed m.bytes.now d.taken
 
--- where a rain was written, the cell exists, the rain is in range, and the file is a model of the same size
-pub record Rained (g : Grid) (bs cs : List ℕ) (c : Cell) (v : Amount) : Type 0 where
-  pub in_it : c.0 < count bs
-  pub low : v.0 ≤ 1000000
-  pub may : allowed bs (Rain c v) ≡ true
-  pub sized : Sized g cs
-  pub formed : WellFormed cs
+  kept : Kept m.bytes.now n.bytes.now
+  kept = subst (Kept m.bytes.now) (sym bytes) (changed_kept m.bytes.now (Some x) wf)
 
-pub rained : (g : Grid) (bs cs : List ℕ) (c : Cell) (v : Amount) → Sized g bs → WellFormed bs → true ≡ (fits_cell g bs c && leb v.0 1000000) → cs ≡ put_four bs (start c.0 + 4) v.0 → Rained g bs cs c v
-rained g bs cs c v s wf done e =
-    let may : allowed bs (Rain c v) ≡ true = sym (done ∙ ap (λ b. b && leb v.0 1000000) (cell_fits g bs c s wf)) in
-    let k = edited_kept bs (Rain c v) wf may in
-    record {
-      in_it = grind (arith, nat_tests, may);
-      low = grind (arith, nat_tests, may);
-      may = may;
-      sized = subst (Sized g) (sym e) (kept_sized g bs _ k s);
-      formed = subst WellFormed (sym e) k.sound;
-    }
+  -- where it is refused, the model is as it was
+  pub refused_changes : allowed m.bytes.now x ≡ false → n.leaves.0 ≡ m.leaves.0 → Changes m (Some x) n s s
+  refused_changes not same =
+      let stays : n.bytes.now ≡ m.bytes.now = bytes ∙ refused_bytes m.bytes.now x not in
+      record {
+        bytes = bytes;
+        drained = record {
+          sized = subst (λ g. Sized g n.bytes.now) (sym grid) (subst (Sized m.grid) (sym stays) d.sized);
+          taken = ap fault stays ∙ d.taken;
+          tabled = subst (λ b. Tabled b s s) (sym stays) d.tabled;
+          leaves = same ∙ (d.leaves ∙ ap leaves_in (sym stays));
+        };
+      }
+
+  -- where it is made, the model can be drained again
+  pub changed_drainable : Drainable n s
+  changed_drainable = record {
+    sized = subst (λ g. Sized g n.bytes.now) (sym grid) (kept_sized m.grid m.bytes.now n.bytes.now kept d.sized);
+    taken = taken n.bytes.now kept.sound;
+    room = ap (λ k. room_fault k s) (kept_count m.bytes.now n.bytes.now kept) ∙ tabled_room m.bytes.now wf s s d.tabled;
+  }
+
+  -- and what comes of that
+  pub redrained_outcome : (l : Current) (t : Contents) (c : Changed) → allowed m.bytes.now x ≡ true → Redrained n l s t c → Ok c ≡ outcome m.bytes.now x
+  redrained_outcome l t c may r =
+      let levels = changed_levels m.bytes.now n.bytes.now _ _ _ _ wf kept.sound (kept_count m.bytes.now n.bytes.now kept) d.tabled.written.levels (subst (λ b. Tabled b s t) r.bytes r.drained.tabled).written.levels in
+      made_outcome m.bytes.now x c may (ap (λ a. a.0) r.leaves ∙ (r.drained.leaves ∙ ap leaves_in (r.bytes ∙ bytes))) (r.levels ∙ (levels ∙ ap (levels_between m.bytes.now) bytes))
+
+  pub redrained_changes : (l : Current) (t : Contents) (c : Changed) → Redrained n l s t c → Changes m (Some x) l s t
+  redrained_changes l t c r = record { bytes = r.bytes ∙ bytes; drained = r.drained }

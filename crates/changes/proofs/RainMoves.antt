@@ -1,5 +1,5 @@
 -- Amounts that move on the way of a cell's water: one cell more, until all add up.
-use Rattle.std.proofs.Common.{◌≡◌, ℕ, ◌+◌, ◌<◌, true, false, cond, eqb, List, length, get_or, set, sym, ap, subst, inl, inr, arith}
+use Rattle.std.proofs.Common.{◌≡◌, ℕ, ◌+◌, ◌<◌, ◌≤◌, true, false, cond, eqb, List, length, get_or, set, sym, ap, subst, inl, inr, arith}
 use Rattle.std.proofs.lemmas.List.{get_or-set_same, get_or-set_other}
 use Rattle.std.proofs.lemmas.Bool.{cases_eq}
 use Rattle.std.proofs.lemmas.Bool.Decides.{nat_tests}
@@ -10,7 +10,7 @@ use Rattle.amounts.specs.Amounts.{Carried, Acyclic, sent}
 use Rattle.changes.specs.Moved.{OffAt}
 
 -- v is written for the amount of c
-module _ (l : Land) (f : Flow) (p : Acyclic l.cells f) (xs : List ℕ) (c v : ℕ) (inside : c < l.cells) (long : length xs ≡ l.cells) where
+module _ (l : Land) (f : Flow) (p : Acyclic l.cells f) (xs : List ℕ) (c v : ℕ) (inside : c < l.cells) (long : l.cells ≤ length xs) where
   -- what came to d before the write, and what comes to it after
   came : ℕ → ℕ
   came d = sent f (λ k. get_or xs k 0) d l.cells

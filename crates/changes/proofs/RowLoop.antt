@@ -1,19 +1,26 @@
 -- The loop over a row of changes.
-use Rattle.std.proofs.Common.{◌≡◌, ℕ, zero, suc, ◌+◌, List, [], ◌∷◌, ◌++◌, map, None, Option, sym, refl, ap, ◌∙◌, subst, ap₂, add-one, arith}
+use Rattle.std.proofs.Common.{◌≡◌, ℕ, zero, suc, ◌+◌, List, [], ◌∷◌, ◌++◌, map, None, Option, Result, length, sym, refl, ap, ◌∙◌, subst, ap₂, add-one, arith}
 use Rattle.std.specs.List.{range_with_len}
 use Rattle.std.proofs.lemmas.List.FromFn.{map-range_with_len_more}
-use Rattle.model.specs.declared.grid.Grid.{Grid}
+use Rattle.model.specs.declared.refusal.Refusal.{Refusal}
 use Rattle.model.specs.Bytes.{count}
-use Rattle.model.specs.Faults.{fault}
+use Rattle.model.specs.Faults.{or_else, fault}
 use Rattle.model.specs.Of.{Sized}
+use Rattle.model.specs.Slices.{Contents}
 use Rattle.model.specs.WellFormed.{WellFormed}
-use Rattle.model.proofs.Taken.{well_formed}
-use Rattle.changes.specs.declared.answer.Answer.{Answer}
+use Rattle.model.proofs.Taken.{well_formed, taken}
+use Rattle.amounts.specs.declared.answer.Drained.{Drained as FirstDrained}
+use Rattle.amounts.specs.Draining.{room_fault}
+use Rattle.amounts.specs.Promise.{Promise}
+use Rattle.changes.specs.declared.answer.Changed.{Changed}
+use Rattle.changes.specs.declared.applying.Current.{Current}
 use Rattle.changes.specs.declared.asked.Asked.{Asked}
 use Rattle.changes.specs.declared.asked.Change.{Change}
 use Rattle.changes.specs.Applied.{changed_by, leaves_in, answer_to, asked_for, bytes_after, answer_at, Tabled}
-use Rattle.changes.proofs.Edits.{Kept, kept_count, kept_sized, changed_kept}
-use Rattle.changes.proofs.Holding.{tabled_on}
+use Rattle.changes.specs.Current.{Drained, Changes}
+use Rattle.changes.specs.Row.{Applied}
+use Rattle.changes.proofs.Edits.{Kept, kept_count, changed_kept}
+use Rattle.changes.proofs.Holding.{first_tabled, tabled_on, tabled_now, tabled_promise}
 
 -- every model on the way is well formed and of the same sizes
 pub row_kept : (bs : List ℕ) (row : List Asked) → WellFormed bs → (k : ℕ) → Kept bs (bytes_after bs row k)
@@ -24,37 +31,57 @@ row_kept bs row wf (suc k) =
     let here = changed_kept (bytes_after bs row k) (asked_for row k) before.sound in
     record { w = here.w ∙ before.w; h = here.h ∙ before.h; sound = here.sound }
 
--- after the first k of a row: the bytes, the slices, what leaves, and the answers so far
-pub record Answered (g : Grid) (bs ls fl am wk : List ℕ) (row : List Asked) (k : ℕ) (bs' ls' fl' am' wk' : List ℕ) (leaves : ℕ) (answers : List Answer) : Type 0 where
-  pub sized : Sized g bs'
-  pub formed : WellFormed bs'
-  pub same : count bs' ≡ count bs
-  pub bytes : bs' ≡ bytes_after bs row k
-  pub tabled : Tabled bs' ls fl am wk ls' fl' am' wk'
-  pub leave : leaves ≡ leaves_in bs'
-  pub told : answers ≡ map (answer_at bs row) (range_with_len 0 k)
+-- what holds of the slices from the start holds of them as they are
+pub drained_now : (m : Current) (old new : Contents) → Drained m old new → Drained m new new
+drained_now m old new d = record { sized = d.sized; taken = d.taken; tabled = tabled_now m.bytes.now (well_formed m.bytes.now d.taken) old new d.tabled; leaves = d.leaves }
 
-pub none_answered : (g : Grid) (bs ls fl am wk : List ℕ) (row : List Asked) (leaves : ℕ) (answers : List Answer) → Sized g bs → fault bs ≡ None → Tabled bs ls fl am wk ls fl am wk → leaves ≡ leaves_in bs →
-    answers ≡ [] → Answered g bs ls fl am wk row 0 bs ls fl am wk leaves answers
+-- after the first k of a row: the model, the slices and the answers so far
+pub record Answered (m : Current) (s : Contents) (row : List Asked) (k : ℕ) (n : Current) (t : Contents) (answers : List (Result Changed Refusal)) : Type 0 where
+  pub drained : Drained n s t
+  pub bytes : n.bytes.now ≡ bytes_after m.bytes.now row k
+  pub told : answers ≡ map (answer_at m.bytes.now row) (range_with_len 0 k)
+
+pub none_answered : (m : Current) (s : Contents) (row : List Asked) → Drained m s s → Answered m s row 0 m s []
 unfolding bytes_after
-none_answered g bs ls fl am wk row leaves answers s f t l n = record { sized = s; formed = well_formed bs f; same = refl; bytes = refl; tabled = t; leave = l; told = n }
+none_answered m s row d = record { drained = d; bytes = refl; told = refl }
 
-module _ (g : Grid) (bs ls fl am wk : List ℕ) (row : List Asked) (k : ℕ) (bs' ls' fl' am' wk' : List ℕ) (leaves : ℕ) (answers : List Answer)
-    (a : Answered g bs ls fl am wk row k bs' ls' fl' am' wk' leaves answers) where
-  -- one more
-  pub one_answered : (o : Option Change) (r : Answer) (bs'' ls'' fl'' am'' wk'' : List ℕ) (leaves'' : ℕ) → o ≡ asked_for row k → r ≡ answer_to k bs' o → bs'' ≡ changed_by bs' o →
-      Tabled (changed_by bs' o) ls' fl' am' wk' ls'' fl'' am'' wk'' → leaves'' ≡ leaves_in (changed_by bs' o) → Answered g bs ls fl am wk row (k + 1) bs'' ls'' fl'' am'' wk'' leaves'' (answers ++ (r ∷ []))
-  unfolding bytes_after
-  one_answered o r bs'' ls'' fl'' am'' wk'' leaves'' asked e b t l =
-      let k' = changed_kept bs' o a.formed in
-      let after : bs'' ≡ bytes_after bs row (suc k) = b ∙ ap₂ changed_by a.bytes asked in
-      let answered : r ≡ answer_at bs row k = e ∙ ap₂ (answer_to k) a.bytes asked in
+-- one more
+pub one_answered : (m : Current) (s : Contents) (row : List Asked) (k : ℕ) (n : Current) (t : Contents) (answers : List (Result Changed Refusal)) → Answered m s row k n t answers →
+    (o : Option Change) (r : Result Changed Refusal) (l : Current) (u : Contents) → o ≡ asked_for row k → r ≡ answer_to k n.bytes.now o → Changes n o l t u → Answered m s row (k + 1) l u (answers ++ (r ∷ []))
+unfolding bytes_after
+one_answered m s row k n t answers a o r l u asked e c =
+    let wf = well_formed n.bytes.now a.drained.taken in
+    let kept = subst (Kept n.bytes.now) (sym c.bytes) (changed_kept n.bytes.now o wf) in
+    let after : l.bytes.now ≡ bytes_after m.bytes.now row (suc k) = c.bytes ∙ ap₂ changed_by a.bytes asked in
+    let answered : r ≡ answer_at m.bytes.now row k = e ∙ ap₂ (answer_to k) a.bytes asked in
+    record {
+      drained = record {
+        sized = c.drained.sized;
+        taken = c.drained.taken;
+        tabled = tabled_on n.bytes.now wf s t a.drained.tabled l.bytes.now u (kept_count n.bytes.now l.bytes.now kept) c.drained.tabled;
+        leaves = c.drained.leaves;
+      };
+      bytes = after ∙ ap (bytes_after m.bytes.now row) (sym (add-one k));
+      told = ap₂ (λ xs x. xs ++ (x ∷ [])) a.told answered ∙ sym (map-range_with_len_more (answer_at m.bytes.now row) 0 k k (omega arith));
+    }
+
+-- a row that was applied to a model, after it was drained
+module _ (bs : List ℕ) (wf : WellFormed bs) (old first : Contents) (d : FirstDrained) (p : Promise bs old first d) where
+  pub row_begins : (m : Current) → m.bytes.now ≡ bs → Sized m.grid bs → m.leaves ≡ d.leaves → Drained m first first
+  row_begins m same sized leaves = record {
+    sized = subst (Sized m.grid) (sym same) sized;
+    taken = ap fault same ∙ taken bs wf;
+    tabled = subst (λ b. Tabled b first first) (sym same) (tabled_now bs wf old first (first_tabled bs old first d p));
+    leaves = ap (λ a. a.0) leaves ∙ (p.leaves ∙ ap leaves_in (sym same));
+  }
+
+  pub row_ends : (row : List Asked) (n : Current) (last : Contents) (cs : List ℕ) (answers : List (Result Changed Refusal)) → None ≡ room_fault (count bs) old → Drained n first last → n.bytes.now ≡ bytes_after bs row (length row) →
+      answers ≡ map (answer_at bs row) (range_with_len 0 (length row)) → cs ≡ n.bytes.now → Applied bs old row cs last answers
+  row_ends row n last cs answers room e after told same =
+      let k = subst (Kept bs) (sym (same ∙ after)) (row_kept bs row wf (length row)) in
       record {
-        sized = subst (Sized g) (sym b) (kept_sized g bs' _ k' a.sized);
-        formed = subst WellFormed (sym b) k'.sound;
-        same = ap count b ∙ (kept_count bs' _ k' ∙ a.same);
-        bytes = after ∙ ap (bytes_after bs row) (sym (add-one k));
-        tabled = tabled_on bs' a.formed ls fl am wk ls' fl' am' wk' a.tabled bs'' ls'' fl'' am'' wk'' (ap count b ∙ kept_count bs' _ k') (subst (λ x. Tabled x ls' fl' am' wk' ls'' fl'' am'' wk'') (sym b) t);
-        leave = l ∙ ap leaves_in (sym b);
-        told = ap₂ (λ xs x. xs ++ (x ∷ [])) a.told answered ∙ sym (map-range_with_len_more (answer_at bs row) 0 k k (omega arith));
+        taken = ap₂ or_else (taken bs wf) (sym room);
+        bytes = same ∙ after;
+        promise = tabled_promise cs k.sound old last (tabled_on bs wf old first (first_tabled bs old first d p) cs last (kept_count bs cs k) (subst (λ b. Tabled b first last) (sym same) e.tabled));
+        answered = told;
       }

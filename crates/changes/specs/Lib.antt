@@ -4,3 +4,4 @@ pub mod Applied
 pub mod Moved
 pub mod Row
 pub mod Meaning
+pub mod Current

@@ -9,9 +9,5 @@ pub struct Changed {
     pub levels: u32,
 }
 
-// The change was made, or it was refused and nothing changed.
-#[derive(Clone, Copy, PartialEq, Eq, Debug)]
-pub enum Answer {
-    Done(Changed),
-    Refused(Refusal),
-}
+// What came of a change, or why it was refused; nothing changed then.
+pub type Answer = Result<Changed, Refusal>;

@@ -1,5 +1,5 @@
 // A change of rain: the amounts move on the way of the cell's water, and nowhere else.
-ghost use Rattle.std.specs.Prelude.{◌≡◌, ℕ, ◌<◌, ◌≤◌, length, slice_index};
+ghost use Rattle.std.specs.Prelude.{◌≡◌, ℕ, ◌<◌, ◌≤◌, ◌++◌, length, drop, slice_index};
 ghost use Rattle.model.specs.Bytes.{count};
 ghost use Rattle.model.specs.Limits.{max_rain};
 ghost use Rattle.model.specs.OfModel.{bytes_of};
@@ -24,12 +24,12 @@ pub(crate) fn move_amounts(
     new: Amount,
 ) -> u32
     requires cell { cell.0 < count (bytes_of model.now) }
-    requires flow { flow.now ≡ (table_of (bytes_of model.now)).flow }
-    requires long { length amounts.old ≡ count (bytes_of model.now) }
+    requires flow { flow.now ≡ (table_of (bytes_of model.now)).flow ++ drop (count (bytes_of model.now)) flow.now }
+    requires long { count (bytes_of model.now) ≤ length amounts.old }
     requires rain { (old.0 ≤ max_rain) × (new.0 ≤ max_rain) }
-    requires low { (c : ℕ) → slice_index amounts.old c ≤ 160000000000 }
+    requires low { (c : ℕ) → c < count (bytes_of model.now) → slice_index amounts.old c ≤ 160000000000 }
     requires off { OffAt (land (bytes_of model.now)) (flow_in (bytes_of model.now)) (λ c. slice_index amounts.old c) cell.0 old.0 new.0 }
-    ensures amounts { amounts.new ≡ table_amounts (bytes_of model.now) }
+    ensures amounts { amounts.new ≡ table_amounts (bytes_of model.now) ++ drop (count (bytes_of model.now)) amounts.old }
     ensures touched { result ≡ length (way (flow_in (bytes_of model.now)) cell.0) }
 {
     let mut at = cell;
@@ -38,7 +38,7 @@ pub(crate) fn move_amounts(
         let c = at.index();
         amounts[c] = amounts[c] + new.0 - old.0;
         touched += 1;
-        match Sends::of_code(flow[c]) {
+        match Sends::from(flow[c]) {
             Sends::Off => return touched,
             Sends::To(next) => at = next,
         }

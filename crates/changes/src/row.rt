@@ -1,57 +1,37 @@
 // A row of changes applied to a model and to the slices that hold its table.
-ghost use Rattle.std.specs.Prelude.{◌≡◌, ◌≤◌, [], map, length, None, vec_len, vec_capacity, MatchResult};
+ghost use Rattle.std.specs.Prelude.{◌≡◌, ◌≤◌, [], map, length, Some, vec_len, vec_capacity, MatchResult};
 ghost use Rattle.std.specs.List.{range_with_len};
-ghost use Rattle.model.specs.Faults.{fault};
-ghost use Rattle.model.specs.Of.{Sized};
-ghost use Rattle.changes.specs.Applied.{leaves_in, bytes_after, answer_at, Tabled};
+ghost use Rattle.model.specs.Slices.{contents, SameSlices};
+ghost use Rattle.changes.specs.Applied.{bytes_after, answer_at};
+ghost use Rattle.changes.specs.Current.{Drained};
 ghost use Rattle.changes.specs.Row.{Applied, Untouched, Fails};
 
 use crate::answer::Answer;
-use crate::applying::answer_one;
+use crate::applying::Current;
 use crate::asked::Asked;
 use crate::failure::Failure;
 use amounts::draining::drain_model;
-use model::grid::Grid;
-use model::land::Model;
 use model::reading::read;
-use model::units::Amount;
+use model::slices::Slices;
 use std::alloc::Global;
 
-// Applies a row to a model that the slices hold, of which so much leaves, and adds the answer to each change.
+// Applies a row to a model that the slices hold, and adds the answer to each change.
 fn answer_all(
-    grid: Grid,
-    bytes: &mut [u8],
-    levels: &mut [u32],
-    flow: &mut [u32],
-    amounts: &mut [u64],
-    work: &mut [u64],
-    leaves: Amount,
+    current: &mut Current<'_>,
+    slices: &mut Slices<'_>,
     row: &[Asked],
     answers: &mut Vec<Answer>,
 )
-    requires sized { Sized grid bytes.old }
-    requires taken { fault bytes.old ≡ None }
-    requires tabled { Tabled bytes.old levels.old flow.old amounts.old work.old levels.old flow.old amounts.old work.old }
-    requires leaves { leaves.0 ≡ leaves_in bytes.old }
+    requires drained { Drained current.old (contents slices.old) (contents slices.old) }
     requires room { (answers.old.items ≡ []) × (vec_len answers.old ≡ 0) × (length row.now ≤ vec_capacity answers.old) }
-    ensures bytes { bytes.new ≡ bytes_after bytes.old row.now (length row.now) }
-    ensures tabled { Tabled bytes.new levels.old flow.old amounts.old work.old levels.new flow.new amounts.new work.new }
-    ensures answers { answers.new.items ≡ map (answer_at bytes.old row.now) (range_with_len 0 (length row.now)) }
+    ensures after { Drained current.new (contents slices.old) (contents slices.new) }
+    ensures changed { current.new.bytes.now ≡ bytes_after current.old.bytes.now row.now (length row.now) }
+    ensures answers { answers.new.items ≡ map (answer_at current.old.bytes.now row.now) (range_with_len 0 (length row.now)) }
+    ensures bytes { current.new.bytes.ghost_name ≡ current.old.bytes.ghost_name }
+    ensures slices { SameSlices slices.old slices.new }
 {
-    let mut leaves = leaves;
-    for k in 0..row.len() {
-        let change = row[k].change;
-        let answer = answer_one(
-            grid,
-            bytes,
-            levels,
-            flow,
-            amounts,
-            work,
-            &mut leaves,
-            k,
-            change,
-        );
+    for (k, asked) in row.iter().enumerate() {
+        let answer = current.answer(slices, k, asked.change);
         answers.push_reserved(answer);
     }
 }
@@ -62,27 +42,21 @@ fn answer_all(
 pub fn apply_row(
     heap: Global,
     bytes: &mut [u8],
-    levels: &mut [u32],
-    flow: &mut [u32],
-    amounts: &mut [u64],
-    work: &mut [u64],
+    slices: &mut Slices<'_>,
     row: &[Asked],
 ) -> Result<Vec<Answer>, Failure>
-    ensures { MatchResult result (λ v. Applied bytes.old levels.old flow.old amounts.old work.old row.now bytes.new levels.new flow.new amounts.new work.new v.items) (λ f. Fails bytes.old levels.old flow.old amounts.old work.old f × Untouched bytes.old levels.old flow.old amounts.old work.old bytes.new levels.new flow.new amounts.new work.new) }
+    ensures after { MatchResult result (λ v. Applied bytes.old (contents slices.old) row.now bytes.new (contents slices.new) v.items) (λ f. Fails bytes.old (contents slices.old) f × Untouched bytes.old (contents slices.old) bytes.new (contents slices.new)) }
+    ensures same { SameSlices slices.old slices.new }
 {
     let mut answers = Vec::with_capacity(heap, row.len())?;
-    let grid = read(bytes)?;
-    let drained = drain_model(&Model::new(grid, bytes), levels, flow, amounts, work)?;
-    answer_all(
+    let model = read(bytes)?;
+    let grid = model.grid();
+    let leaves = drain_model(&model, slices)?.leaves;
+    let mut current = Current {
         grid,
         bytes,
-        levels,
-        flow,
-        amounts,
-        work,
-        drained.leaves,
-        row,
-        &mut answers,
-    );
+        leaves,
+    };
+    answer_all(&mut current, slices, row, &mut answers);
     Ok(answers)
 }

@@ -6,6 +6,7 @@ use crate::row::apply_row;
 use crate::text::read_row;
 use amounts::draining;
 use model::refusal::{Lent, Refusal, Side};
+use model::slices::Slices;
 use model::units::{Amount, Cell, Height};
 use std::alloc::Global;
 use std::process::Abort;
@@ -146,14 +147,14 @@ const SPILL: [u8; 85] = [
 ];
 
 fn done(leaves: u64, levels: u32) -> Answer {
-    Answer::Done(Changed {
+    Ok(Changed {
         leaves: Amount(leaves),
         levels,
     })
 }
 
 fn refused(change: usize) -> Answer {
-    Answer::Refused(Refusal::Change(change))
+    Err(Refusal::Change(change))
 }
 
 // Applies a row to the model with the gap, compares its answers, and the slices with those of a fresh drain.
@@ -163,28 +164,25 @@ fn answers(rt: &impl Abort, heap: Global, text: &[u8], expected: &[Answer]) -> R
     let mut flow = [7u32; 9];
     let mut amounts = [7u64; 9];
     let mut work = [7u64; 27];
+    let mut slices = Slices {
+        levels: &mut levels,
+        flow: &mut flow,
+        amounts: &mut amounts,
+        work: &mut work,
+    };
     let row = read_row(heap, text)?;
-    let Ok(given) = apply_row(
-        heap,
-        &mut bytes,
-        &mut levels,
-        &mut flow,
-        &mut amounts,
-        &mut work,
-        row.as_slice(),
-    ) else {
+    let Ok(given) = apply_row(heap, &mut bytes, &mut slices, row.as_slice()) else {
         return Err(Fail::new("the row is not applied"));
     };
     assert!(rt; given.as_slice() == expected);
     let mut fresh = ([0u32; 9], [0u32; 9], [0u64; 9], [0u64; 27]);
-    let drained = draining::drain(
-        &bytes,
-        &mut fresh.0,
-        &mut fresh.1,
-        &mut fresh.2,
-        &mut fresh.3,
-    );
-    assert!(rt; drained.is_ok());
+    let mut slices = Slices {
+        levels: &mut fresh.0,
+        flow: &mut fresh.1,
+        amounts: &mut fresh.2,
+        work: &mut fresh.3,
+    };
+    assert!(rt; draining::drain(&bytes, &mut slices).is_ok());
     assert!(rt; levels == fresh.0 && flow == fresh.1);
     assert!(rt; amounts == fresh.2 && work == fresh.3);
     Ok(())
@@ -236,27 +234,23 @@ fn refuses_a_model_or_a_slice_and_writes_nothing(rt: HostRuntime) -> Result<(), 
     let row = read_row(heap, b"rain 4 2")?;
     let row = row.as_slice();
     let mut bytes = SPILL;
-    let short = apply_row(
-        heap,
-        &mut bytes,
-        &mut levels,
-        &mut flow,
-        &mut amounts,
-        &mut work[..26],
-        row,
-    );
+    let mut slices = Slices {
+        levels: &mut levels,
+        flow: &mut flow,
+        amounts: &mut amounts,
+        work: &mut work[..26],
+    };
+    let short = apply_row(heap, &mut bytes, &mut slices, row);
     assert!(rt; matches!(short, Err(Failure::Refused(Refusal::Short(Lent::Work)))));
     assert!(rt; bytes == SPILL && levels == [7; 9]);
     bytes[0] = 0;
-    let wrong = apply_row(
-        heap,
-        &mut bytes,
-        &mut levels,
-        &mut flow,
-        &mut amounts,
-        &mut work,
-        row,
-    );
+    let mut slices = Slices {
+        levels: &mut levels,
+        flow: &mut flow,
+        amounts: &mut amounts,
+        work: &mut work,
+    };
+    let wrong = apply_row(heap, &mut bytes, &mut slices, row);
     assert!(rt; matches!(wrong, Err(Failure::Refused(Refusal::Size(Side::Columns)))));
     assert!(rt; flow == [7; 9] && amounts == [7; 9] && work == [7; 27]);
     Ok(())

@@ -1,4 +1,4 @@
-use Rattle.std.proofs.Common.{ℕ, ◌+◌, ◌-◌, length, get_or, set, sym, ap, subst, arith}
+use Rattle.std.proofs.Common.{ℕ, ◌+◌, ◌-◌, length, get_or, set, sym, refl, ap, subst, arith, length-append}
 use Rattle.model.proofs.Taken.{formed}
 use Rattle.flood.proofs.Turns.{table_long}
 use Rattle.amounts.specs.Promise.{flow_in}
@@ -6,52 +6,55 @@ use Rattle.changes.proofs.OnWay.{OnWay, few_touched, low_here, old_in_it, told_o
 use Rattle.changes.proofs.moving.move_amounts.Goals as goal
 
 pub way-init : goal.way-init
-way-init c = record { cell = c.requires.cell; long = c.requires.long; low = λ d a. c.requires.low d; off = c.requires.off; counted = omega arith }
+way-init c = record { cell = c.requires.cell; long = c.requires.long; low = λ d a b. c.requires.low d a; off = c.requires.off; counted = omega arith; behind = refl }
 
 pub overflow_add-amounts : goal.overflow_add-amounts
 overflow_add-amounts c =
     let bs = c.args.model.now.bytes.now in
-    let low = low_here bs (formed bs c.args.model.now.taken) _ _ _ _ _ _ c.requires.cell c.way.invariant in
+    let low = low_here bs (formed bs c.args.model.now.taken) _ _ _ _ _ _ _ c.requires.cell c.way.invariant in
     omega (arith, low, ap (λ i. get_or c.way.amounts i 0) c.index-c.ensures, c.requires.rain.1)
 
 pub overflow_sub-amounts : goal.overflow_sub-amounts
 overflow_sub-amounts c =
     let bs = c.args.model.now.bytes.now in
-    let old = old_in_it bs (formed bs c.args.model.now.taken) _ _ _ _ _ _ c.requires.cell c.way.invariant in
+    let old = old_in_it bs (formed bs c.args.model.now.taken) _ _ _ _ _ _ _ c.requires.cell c.way.invariant in
     omega (arith, old, ap (λ i. get_or c.way.amounts i 0) c.index-c.ensures)
 
 pub overflow_add-touched : goal.overflow_add-touched
 overflow_add-touched c =
     let bs = c.args.model.now.bytes.now in
-    omega (arith, few_touched bs (formed bs c.args.model.now.taken) _ _ _ _ _ _ c.requires.cell c.way.invariant)
+    omega (arith, few_touched bs (formed bs c.args.model.now.taken) _ _ _ _ _ _ _ c.requires.cell c.way.invariant)
 
 pub bounds-flow-c : goal.bounds-flow-c
 bounds-flow-c c =
     let bs = c.args.model.now.bytes.now in
-    omega (arith, ap length c.requires.flow, (table_long bs (formed bs c.args.model.now.taken)).flow, c.way.invariant.cell, c.index-c.ensures)
+    omega (arith, simp length-append at (ap length c.requires.flow), (table_long bs (formed bs c.args.model.now.taken)).flow, c.way.invariant.cell, c.index-c.ensures)
 
 pub returns-in-Off : goal.returns-in-Off
 returns-in-Off c =
     let bs = c.args.model.now.bytes.now in
+    let wf = formed bs c.args.model.now.taken in
     let i = c.index-c.result in
-    let w = subst (λ (x : ℕ). OnWay bs c.way.amounts c.args.cell.0 x c.way.touched c.args.old.0 c.args.new.0) (sym c.index-c.ensures) c.way.invariant in
-    let d = way_done bs (formed bs c.args.model.now.taken) c.way.amounts c.args.cell.0 i c.way.touched c.args.old.0 c.args.new.0 c.requires.cell w (told_off bs c.args.flow.now i c.requires.flow c.in-Off.ensures.value) in
+    let w = subst (λ (x : ℕ). OnWay bs c.args.amounts.now c.way.amounts c.args.cell.0 x c.way.touched c.args.old.0 c.args.new.0) (sym c.index-c.ensures) c.way.invariant in
+    let d = way_done bs wf _ c.way.amounts c.args.cell.0 i c.way.touched c.args.old.0 c.args.new.0 c.requires.cell w (told_off bs wf c.args.flow.now _ i w.cell c.requires.flow c.in-Off.ensures.0) in
     record { amounts = d.0; touched = d.1 }
 
 pub way-smaller : goal.way-smaller
 way-smaller c =
     let bs = c.args.model.now.bytes.now in
+    let wf = formed bs c.args.model.now.taken in
     let i = c.index-c.result in
-    let w = subst (λ (x : ℕ). OnWay bs c.way.amounts c.args.cell.0 x c.way.touched c.args.old.0 c.args.new.0) (sym c.index-c.ensures) c.way.invariant in
-    let on = told_on bs c.args.flow.now i c.in-To.next c.requires.flow c.in-To.ensures.value in
-    let n = way_nearer bs (formed bs c.args.model.now.taken) c.way.amounts c.args.cell.0 i c.way.touched c.args.old.0 c.args.new.0 c.requires.cell w on.0 in
+    let w = subst (λ (x : ℕ). OnWay bs c.args.amounts.now c.way.amounts c.args.cell.0 x c.way.touched c.args.old.0 c.args.new.0) (sym c.index-c.ensures) c.way.invariant in
+    let on = told_on bs wf c.args.flow.now _ i w.cell c.requires.flow c.in-To.next c.in-To.ensures.0 in
+    let n = way_nearer bs wf _ c.way.amounts c.args.cell.0 i c.way.touched c.args.old.0 c.args.new.0 c.requires.cell w on.0 in
     omega (arith, n, ap (flow_in bs).far on.1, ap (flow_in bs).far c.index-c.ensures)
 
 pub way-preserved : goal.way-preserved
 way-preserved c =
     let bs = c.args.model.now.bytes.now in
+    let wf = formed bs c.args.model.now.taken in
     let i = c.index-c.result in
-    let w = subst (λ (x : ℕ). OnWay bs c.way.amounts c.args.cell.0 x c.way.touched c.args.old.0 c.args.new.0) (sym c.index-c.ensures) c.way.invariant in
-    let on = told_on bs c.args.flow.now i c.in-To.next c.requires.flow c.in-To.ensures.value in
-    let f = way_further bs (formed bs c.args.model.now.taken) c.way.amounts c.args.cell.0 i c.way.touched c.args.old.0 c.args.new.0 c.requires.cell w on.0 in
-    subst (λ (x : ℕ). OnWay bs (set c.way.amounts i (get_or c.way.amounts i 0 + c.args.new.0 - c.args.old.0)) c.args.cell.0 x (c.way.touched + 1) c.args.old.0 c.args.new.0) (sym on.1) f
+    let w = subst (λ (x : ℕ). OnWay bs c.args.amounts.now c.way.amounts c.args.cell.0 x c.way.touched c.args.old.0 c.args.new.0) (sym c.index-c.ensures) c.way.invariant in
+    let on = told_on bs wf c.args.flow.now _ i w.cell c.requires.flow c.in-To.next c.in-To.ensures.0 in
+    let f = way_further bs wf _ c.way.amounts c.args.cell.0 i c.way.touched c.args.old.0 c.args.new.0 c.requires.cell w on.0 in
+    subst (λ (x : ℕ). OnWay bs c.args.amounts.now (set c.way.amounts i (get_or c.way.amounts i 0 + c.args.new.0 - c.args.old.0)) c.args.cell.0 x (c.way.touched + 1) c.args.old.0 c.args.new.0) (sym on.1) f

@@ -1,0 +1,37 @@
+-- What holds of a model while a row changes it.
+use Rattle.std.specs.Prelude.{◌≡◌, List, None, Some, Option}
+use Rattle.model.specs.Bytes.{count}
+use Rattle.model.specs.Faults.{fault}
+use Rattle.model.specs.Of.{Sized}
+use Rattle.model.specs.Slices.{Contents}
+use Rattle.amounts.specs.Again.{levels_changed}
+use Rattle.amounts.specs.Draining.{room_fault}
+use Rattle.changes.specs.declared.answer.Changed.{Changed}
+use Rattle.changes.specs.declared.applying.Current.{Current}
+use Rattle.changes.specs.declared.asked.Change.{Change}
+use Rattle.changes.specs.Applied.{changed_by, leaves_in, Tabled}
+
+-- the bytes are a model of the grid's size, of which so much leaves; slices hold its table, and behind it what they held before
+pub record Drained (m : Current) (old new : Contents) : Type 0 where
+  pub sized : Sized m.grid m.bytes.now
+  pub taken : fault m.bytes.now ≡ None
+  pub tabled : Tabled m.bytes.now old new
+  pub leaves : m.leaves.0 ≡ leaves_in m.bytes.now
+
+-- a change was done, or refused, and the model is drained
+pub record Changes (m : Current) (o : Option Change) (n : Current) (old new : Contents) : Type 0 where
+  pub bytes : n.bytes.now ≡ changed_by m.bytes.now o
+  pub drained : Drained n old new
+
+-- the bytes are a model of the grid's size, for which the slices have room
+pub record Drainable (m : Current) (s : Contents) : Type 0 where
+  pub sized : Sized m.grid m.bytes.now
+  pub taken : fault m.bytes.now ≡ None
+  pub room : room_fault (count m.bytes.now) s ≡ None
+
+-- it was drained, which changed so many levels in the slices
+pub record Redrained (m n : Current) (old new : Contents) (d : Changed) : Type 0 where
+  pub bytes : n.bytes.now ≡ m.bytes.now
+  pub drained : Drained n old new
+  pub leaves : d.leaves ≡ n.leaves
+  pub levels : d.levels ≡ levels_changed old.levels new.levels (count m.bytes.now)
