@@ -9,13 +9,14 @@ use Rattle.model.specs.WellFormed.{WellFormed}
 use Rattle.flood.specs.Flooded.{table_of, Flooded}
 use Rattle.flood.proofs.Models.{models_right, models_few_looks}
 use Rattle.flood.proofs.Sums.{sum_same, sum_zero}
-use Rattle.flood.proofs.Turns.{sound, table_long}
+use Rattle.flood.proofs.Turns.{sound}
 use Rattle.amounts.specs.declared.answer.Drained.{Drained}
 use Rattle.amounts.specs.Again.{differs, levels_changed}
 use Rattle.amounts.specs.Draining.{room_fault}
 use Rattle.amounts.specs.Passing.{table_amounts}
 use Rattle.amounts.specs.Promise.{Promise}
 use Rattle.amounts.proofs.Promised.{long_amounts, promised}
+use Rattle.amounts.proofs.Passes.{table_long}
 use Rattle.changes.specs.Applied.{Tabled}
 use Rattle.changes.specs.Row.{drained_of}
 

@@ -9,12 +9,12 @@ use Rattle.flood.specs.Flooded.{table_of}
 use Rattle.flood.specs.Run.{none}
 use Rattle.flood.specs.declared.sends.Sends.TheVariants.{Off, To}
 use Rattle.flood.specs.Sent.{sends_of}
-use Rattle.flood.proofs.Turns.{small, table_long}
+use Rattle.flood.proofs.Turns.{small}
 use Rattle.amounts.specs.Amounts.{Carried}
 use Rattle.amounts.specs.Passing.{table_amounts}
 use Rattle.amounts.specs.Promise.{flow_in, amount_in}
 use Rattle.amounts.proofs.Carrying.{only_amounts}
-use Rattle.amounts.proofs.Passes.{ordered}
+use Rattle.amounts.proofs.Passes.{table_long, ordered}
 use Rattle.amounts.proofs.Promised.{long_amounts, carried}
 use Rattle.basins.specs.Exits.{way}
 use Rattle.basins.proofs.Following.{way_off, way_on, way_short}

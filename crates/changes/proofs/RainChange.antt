@@ -19,13 +19,12 @@ use Rattle.flood.specs.Levels.{Flow}
 use Rattle.flood.specs.Run.{flow_of}
 use Rattle.flood.specs.Sums.{sum}
 use Rattle.flood.proofs.Sums.{le_sum, sum_same}
-use Rattle.flood.proofs.Turns.{table_long}
 use Rattle.amounts.specs.Again.{levels_changed}
 use Rattle.amounts.specs.Amounts.{Carried, all_rain, sends, sent}
 use Rattle.amounts.specs.Passing.{table_amounts}
 use Rattle.amounts.specs.Promise.{flow_in, amount_in}
 use Rattle.amounts.proofs.Carrying.{nothing_lost}
-use Rattle.amounts.proofs.Passes.{ordered, rain_low}
+use Rattle.amounts.proofs.Passes.{table_long, ordered, rain_low}
 use Rattle.amounts.proofs.Promised.{long_amounts, amounts_low, carried}
 use Rattle.amounts.proofs.Sums.{sum_more}
 use Rattle.changes.specs.declared.answer.Changed.{Changed}
