@@ -1,5 +1,5 @@
 -- Basins in lent slices: what is refused, what is written, and what that is where the other slices hold a drained model.
-use Rattle.std.specs.Prelude.{◌≡◌, ℕ, ◌+◌, ◌<◌, true, false, cond, ◌&&◌, List, ◌++◌, map, length, take, drop, Some, None, Option, ◌==◌, nat_lt, slice_index, slice_set}
+use Rattle.std.specs.Prelude.{◌≡◌, ℕ, ◌<◌, true, false, cond, ◌&&◌, List, ◌++◌, map, length, take, drop, Some, None, Option, ◌==◌, nat_lt, slice_index}
 use Rattle.std.specs.List.{range_with_len}
 use Rattle.model.specs.Bytes.{count}
 use Rattle.model.specs.Terrain.{land}
@@ -13,10 +13,6 @@ use Rattle.basins.specs.declared.short.Short.TheVariants.{Cells}
 use Rattle.basins.specs.Exits.{exit, basin_sum}
 use Rattle.basins.specs.Promises.{LeavesAtExit, InOneBasin}
 use Rattle.basins.specs.Tracing.{exits_fault, exits_written, HoldsFlow}
-
--- counts with one more for e; as they were where there is no such cell
-abbrev pub one_more : List ℕ → ℕ → List ℕ
-one_more cells e = slice_set cells e (slice_index cells e + 1)
 
 -- of the cells numbered below n, the number of those with exit e
 abbrev pub cells_at : (exits : List ℕ) → ℕ → ℕ → ℕ

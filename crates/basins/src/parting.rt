@@ -1,9 +1,9 @@
 // Basins: the cells of each are counted at its exit, where all its water leaves.
-ghost use Rattle.std.specs.Prelude.{◌≡◌, ◌<◌, ◌≤◌, length, MatchResult, slice_index};
+ghost use Rattle.std.specs.Prelude.{◌≡◌, ◌≤◌, length, MatchResult};
 ghost use Rattle.std.specs.Result.{result_err};
 ghost use Rattle.model.specs.Bytes.{count};
 ghost use Rattle.model.specs.OfModel.{bytes_of};
-ghost use Rattle.basins.specs.Parting.{one_more, cells_of, basin_at, basins_fault, BasinsFound};
+ghost use Rattle.basins.specs.Parting.{cells_of, basin_at, basins_fault, BasinsFound};
 
 use crate::short::Short;
 use crate::tracing::find_exits;
@@ -20,17 +20,6 @@ pub struct Basin {
     pub amount: Amount,
 }
 
-// One cell more for an exit. Nothing changes where there is no such cell.
-fn count_one(cells: &mut [u32], at: usize)
-    requires { slice_index cells.old at < 160000 }
-    ensures { cells.new ≡ one_more cells.old at }
-{
-    // By index, since a proof knows no element of a slice after get_mut.
-    if at < cells.len() {
-        cells[at] += 1;
-    }
-}
-
 // The number of cells that leave at each cell, into a slice that has one entry for each.
 fn count_cells(exits: &[u32], cells: &mut [u32])
     requires long { length cells.old ≡ length exits.now }
@@ -39,7 +28,11 @@ fn count_cells(exits: &[u32], cells: &mut [u32])
 {
     cells.fill(0);
     for exit in exits {
-        count_one(cells, *exit as usize);
+        let exit = *exit as usize;
+        // By index, since a proof knows no element of a slice after get_mut.
+        if exit < cells.len() {
+            cells[exit] += 1;
+        }
     }
 }
 

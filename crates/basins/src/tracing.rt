@@ -5,7 +5,7 @@ ghost use Rattle.std.specs.Result.{result_err};
 ghost use Rattle.model.specs.Bytes.{count};
 ghost use Rattle.model.specs.Of.{number};
 ghost use Rattle.model.specs.OfModel.{bytes_of};
-ghost use Rattle.basins.specs.Walks.{exit_of, exit_by, exit_told, exits_after};
+ghost use Rattle.basins.specs.Walks.{exit_of, exit_by, exits_after};
 ghost use Rattle.basins.specs.Tracing.{exits_fault, Traced};
 
 use crate::short::Short;
@@ -19,6 +19,7 @@ pub fn exit_of(flow: &[u32], cell: Cell) -> Option<Cell>
     ensures { option_map number result ≡ exit_of flow.now (length flow.now) cell.0 }
 {
     let mut at = cell;
+    // As many steps as there are cells: the number of a step is no index.
     for _step in 0..flow.len() {
         match Sends::from(*flow.get(at.index())?) {
             Sends::Off => return Some(at),
@@ -38,23 +39,16 @@ fn exit_by(flow: &[u32], exits: &[u32], cell: u32) -> u32
     }
 }
 
-// A cell gets its exit. Nothing changes where there is no such cell.
-fn tell_exit(flow: &[u32], exits: &mut [u32], cell: usize)
-    requires { length exits.old ≤ 160000 }
-    ensures { exits.new ≡ exit_told flow.now cell exits.old }
-{
-    if cell < exits.len() {
-        exits[cell] = exit_by(flow, exits, cell as u32);
-    }
-}
-
-// The exits of all cells, from the first place of the order to the last.
+// The exits of all cells, from the first place of the order to the last. A place that holds no cell is passed over.
 fn tell_exits(flow: &[u32], order: &[u64], exits: &mut [u32])
     requires { length exits.old ≤ 160000 }
     ensures { exits.new ≡ exits_after flow.now order.now exits.old (length order.now) }
 {
     for cell in order {
-        tell_exit(flow, exits, *cell as usize);
+        let cell = *cell as usize;
+        if cell < exits.len() {
+            exits[cell] = exit_by(flow, exits, cell as u32);
+        }
     }
 }
 
