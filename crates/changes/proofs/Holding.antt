@@ -15,8 +15,8 @@ use Rattle.amounts.specs.Again.{differs, levels_changed}
 use Rattle.amounts.specs.Draining.{room_fault}
 use Rattle.amounts.specs.Passing.{table_amounts}
 use Rattle.amounts.specs.Promise.{Promise}
-use Rattle.amounts.proofs.Promised.{long_amounts, promised}
 use Rattle.amounts.proofs.Passes.{table_long}
+use Rattle.amounts.proofs.Promised.{long_amounts, promised}
 use Rattle.changes.specs.Applied.{Tabled}
 use Rattle.changes.specs.Row.{drained_of}
 

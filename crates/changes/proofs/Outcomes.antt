@@ -1,5 +1,5 @@
 -- What comes of a change that is refused, and of one that is made.
-use Rattle.std.proofs.Common.{◌≡◌, ℕ, ◌*◌, true, false, cond, List, Some, Option, Ok, Err, Result, sym, ap, ◌∙◌, subst, ap₂}
+use Rattle.std.proofs.Common.{◌≡◌, ℕ, ◌*◌, true, false, cond, List, Some, Ok, Err, Result, sym, ap, ◌∙◌, subst, ap₂}
 use Rattle.model.specs.declared.edits.OutOfRange.{OutOfRange}
 use Rattle.model.specs.declared.grid.Grid.{Grid}
 use Rattle.model.specs.Bytes.{count}

@@ -1,5 +1,5 @@
 -- What is known where the rain of one cell was changed in the bytes, and the slices still hold the table before.
-use Rattle.std.proofs.Common.{◌≡◌, ℕ, ◌+◌, ◌-◌, ◌*◌, ◌<◌, ◌≤◌, true, cond, eqb, List, ◌++◌, length, get_or, take, drop, Some, None, Ok, nat_lt, sym, ap, ◌∙◌, subst, ap₂, inl, inr, arith}
+use Rattle.std.proofs.Common.{◌≡◌, ℕ, ◌+◌, ◌-◌, ◌<◌, ◌≤◌, true, cond, eqb, List, ◌++◌, length, get_or, drop, Some, None, Ok, nat_lt, sym, ap, ◌∙◌, subst, ap₂, inl, inr, arith}
 use Rattle.std.proofs.lemmas.List.{get_or_append_left}
 use Rattle.std.proofs.lemmas.Bool.{cases_Bool}
 use Rattle.std.proofs.lemmas.Bool.Decides.{nat_tests}
@@ -24,7 +24,7 @@ use Rattle.amounts.specs.Amounts.{Carried, all_rain, sends, sent}
 use Rattle.amounts.specs.Passing.{table_amounts}
 use Rattle.amounts.specs.Promise.{flow_in, amount_in}
 use Rattle.amounts.proofs.Carrying.{nothing_lost}
-use Rattle.amounts.proofs.Passes.{table_long, ordered, rain_low}
+use Rattle.amounts.proofs.Passes.{ordered, rain_low}
 use Rattle.amounts.proofs.Promised.{long_amounts, amounts_low, carried}
 use Rattle.amounts.proofs.Sums.{sum_more}
 use Rattle.changes.specs.declared.answer.Changed.{Changed}
@@ -35,7 +35,7 @@ use Rattle.changes.specs.Current.{Drained, Changes}
 use Rattle.changes.specs.Moved.{OffAt}
 use Rattle.changes.proofs.Edits.{kept_count, kept_sized, edited_kept, rain_rewritten, rain_keeps_table}
 use Rattle.changes.proofs.Holding.{enough, none_changed}
-use Rattle.changes.proofs.Outcomes.{made_bytes, refused_bytes, made_outcome, cells_count}
+use Rattle.changes.proofs.Outcomes.{made_bytes, refused_bytes, made_outcome}
 
 -- where the rain of c alone is another, the old amounts add up but at c
 off_begins : (l m : Land) (f : Flow) (g : ℕ → ℕ) (c old new : ℕ) → m.cells ≡ l.cells → c < l.cells → Carried l f g → l.rain c ≡ old → m.rain c ≡ new →

@@ -1,5 +1,5 @@
 -- What holds of a model while a row changes it.
-use Rattle.std.specs.Prelude.{◌≡◌, List, None, Some, Option}
+use Rattle.std.specs.Prelude.{◌≡◌, None, Option}
 use Rattle.model.specs.Bytes.{count}
 use Rattle.model.specs.Faults.{fault}
 use Rattle.model.specs.Of.{Sized}

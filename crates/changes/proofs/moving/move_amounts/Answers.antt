@@ -1,7 +1,7 @@
 use Rattle.std.proofs.Common.{ℕ, ◌+◌, ◌-◌, length, get_or, set, sym, refl, ap, subst, arith, length-append}
 use Rattle.model.proofs.Taken.{formed}
-use Rattle.amounts.specs.Promise.{flow_in}
 use Rattle.amounts.proofs.Passes.{table_long}
+use Rattle.amounts.specs.Promise.{flow_in}
 use Rattle.changes.proofs.OnWay.{OnWay, few_touched, low_here, old_in_it, told_on, told_off, way_nearer, way_further, way_done}
 use Rattle.changes.proofs.moving.move_amounts.Goals as goal
 

@@ -1,9 +1,8 @@
 -- The slices hold the table of the model after its first drain, and after the row that of the changed one.
-use Rattle.std.proofs.Common.{sym, refl, ap, ◌∙◌, subst, ap₂, rules}
+use Rattle.std.proofs.Common.{sym, refl, ap, ◌∙◌, subst, rules}
 use Rattle.model.specs.Bytes.{count}
 use Rattle.model.specs.Of.{Sized}
 use Rattle.model.specs.Slices.{contents}
-use Rattle.model.proofs.Taken.{well_formed}
 use Rattle.amounts.specs.Draining.{room_fault}
 use Rattle.amounts.specs.Promise.{Promise}
 use Rattle.changes.proofs.RowLoop.{row_begins, row_ends}
