@@ -30,7 +30,7 @@ pub struct Row {
 }
 
 impl Row {
-    // The bytes of the row.
+    // The bytes of the row, by a method like to_le_bytes of the library: From would be no plainer.
     pub fn to_bytes(self) -> [u8; ROW_BYTES]
         ensures { result ≡ bytes_of self }
     {
