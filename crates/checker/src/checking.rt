@@ -19,6 +19,7 @@ use model::refusal::Refusal;
 use model::steps::SIDES;
 use model::units::{Amount, Cell, Height};
 
+// Cells and their neighbours are visited by nested loops that are left by labels, a rule of the project.
 impl Table<'_> {
     // Whether a cell sends off exactly where water may leave.
     fn is_off_right(&self, cell: Cell) -> bool
