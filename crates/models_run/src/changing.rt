@@ -104,11 +104,9 @@ fn answer_to(
     wish: Wish,
 ) -> Result<Answer, AllocError> {
     let before = worked_out(heap, ground)?;
-    if let Err(refusal) = wish.make(ground, number) {
-        return Ok(Answer::Refused(refusal));
-    }
+    let made = wish.make(ground, number);
     let after = worked_out(heap, ground)?;
-    Ok(Answer::Done(Changed {
+    Ok(made.map(|_| Changed {
         leaves: Amount(ground.all_rain()),
         levels: count_changed(&before, &after),
     }))
@@ -120,11 +118,10 @@ fn answers_to(
     ground: &mut Ground,
     wishes: &[Wish],
 ) -> Result<Vec<Answer>, AllocError> {
-    let mut answers = Vec::new(heap);
-    for (number, wish) in wishes.iter().enumerate() {
-        answers.push(answer_to(heap, ground, number, *wish)?)?;
-    }
-    Ok(answers)
+    let numbered = wishes.iter().enumerate();
+    numbered
+        .map(|(number, wish)| answer_to(heap, ground, number, *wish))
+        .try_collect(heap)
 }
 
 // A row of changes of a model: the answers, and the file and the slices after it beside those of the changed model.

@@ -8,6 +8,7 @@ use changes::asked::Asked;
 use changes::failure::Failure;
 use changes::row::apply_row;
 use model::refusal::{Lent, Refusal};
+use model::slices::Slices;
 use std::alloc::{AllocError, Global};
 
 // What lies in the slices before.
@@ -43,15 +44,19 @@ impl Lists {
         })
     }
 
+    // The lists, lent as slices.
+    fn lend(&mut self) -> Slices<'_> {
+        Slices {
+            levels: &mut self.levels,
+            flow: &mut self.flow,
+            amounts: &mut self.amounts,
+            work: &mut self.work,
+        }
+    }
+
     // Drains a model into the slices.
     pub fn drain(&mut self, bytes: &[u8]) -> Result<Drained, Refusal> {
-        drain(
-            bytes,
-            &mut self.levels,
-            &mut self.flow,
-            &mut self.amounts,
-            &mut self.work,
-        )
+        drain(bytes, &mut self.lend())
     }
 
     // Applies a row of changes to a model, and leaves the changed model's table in the slices.
@@ -61,15 +66,7 @@ impl Lists {
         bytes: &mut [u8],
         row: &[Asked],
     ) -> Result<Vec<Answer>, Failure> {
-        apply_row(
-            heap,
-            bytes,
-            &mut self.levels,
-            &mut self.flow,
-            &mut self.amounts,
-            &mut self.work,
-            row,
-        )
+        apply_row(heap, bytes, &mut self.lend(), row)
     }
 
     // Takes the last entry from some of the lists; the first slice that is too short then.
