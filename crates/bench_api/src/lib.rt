@@ -87,7 +87,7 @@ pub extern "C" fn zaefmoln_drain(
     }
 }
 
-// The number that stands for want of memory, which is no refusal's.
+// The number that stands for want of memory, which is no refusal's. A number in place of an enum: the C interface needs it.
 const MEMORY: u32 = 10;
 
 // 0 where a row was applied, else the refusal's number or that for want of memory; how many changes were answered; the refusal's place.

@@ -115,7 +115,8 @@ impl Tallies {
         self.counts.values().all(|tally| tally.differ == 0)
     }
 
-    // Whether each refusal was expected at least once, and none too.
+    // Whether each refusal was expected at least once, and none too. By the numbers that are reported, since a place may be any: a
+    // pattern for each refusal is no plainer.
     pub fn expected_every_refusal(&self) -> bool {
         let models = [None, Some(1), Some(2), Some(3)];
         let tables = [None, Some(6), Some(7), Some(8), Some(9)];
