@@ -1,4 +1,5 @@
 // Writing a cell's height, rain or drain mark into lent bytes.
+// Grid and bytes are passed side by side: a struct of them cannot stand inside that of a row of changes, whose proof is not made then.
 ghost use Rattle.std.specs.Prelude.{◌≡◌, ◌+◌, ◌≤◌, ◌&&◌, length, if◌then◌else◌, is_ok, nat_le};
 ghost use Rattle.model.specs.Bytes.{start};
 ghost use Rattle.model.specs.Edits.{put_four, fits_cell, with_height, with_rain, with_mark};

@@ -3,15 +3,9 @@ use Rattle.std.proofs.Common.{◌*◌, sym, ap, ◌∙◌, ap₂, arith}
 use Rattle.std.proofs.lemmas.Result.{err_from_is_err_and}
 use Rattle.model.specs.Bytes.{start}
 use Rattle.model.proofs.Causes.{refused_at}
-use Rattle.model.proofs.CellFaults.{cell_first, cell_passed, cells_none, fault_in_head, fault_in_cells, fault_past_cells, no_fault}
+use Rattle.model.proofs.CellFaults.{cell_first, cell_passed, cells_none, fault_in_cells, fault_past_cells, no_fault}
 use Rattle.model.proofs.Taken.{well_formed}
 use Rattle.model.proofs.reading.read.Goals as goal
-
-pub returns-in_err-grid : goal.returns-in_err-grid
-returns-in_err-grid c =
-    let p = err_from_is_err_and c.from_residual.result c.from_residual.ensures.1 in
-    let first = fault_in_head c.args.bytes.now _ c.in_err-grid.ensures.fault in
-    rw (p.1, p.2) (record { fault = first; model = tt; grid = tt; meaning = refused_at c.args.bytes.now _ first })
 
 pub returns-in_err-check_cell : goal.returns-in_err-check_cell
 returns-in_err-check_cell c =
