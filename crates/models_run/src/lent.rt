@@ -14,7 +14,8 @@ use std::alloc::{AllocError, Global};
 // What lies in the slices before.
 const OLD: u32 = 77;
 
-// The lists that are lent as the four slices.
+// The lists that are lent as the four slices. Not those of `tables`, which are all zeros and never cut: here something lies in them
+// before, and some are cut too short.
 #[derive(Drop)]
 pub struct Lists {
     levels: Vec<u32>,
