@@ -4,6 +4,7 @@
 ghost use Rattle.std.specs.Prelude.{◌≡◌, OnOk, OnErr};
 
 use changes::failure::Failure;
+use std::fmt::Display;
 use std::fs::File;
 use std::io::Write;
 use std::process::ExitCode;
@@ -25,96 +26,78 @@ pub fn status_of(done: Result<(), Failed>) -> ExitCode
     }
 }
 
-// The words behind the program's name.
-pub fn arguments(rt: &HostRuntime, program: &str) -> Result<Vec<String>, Failed> {
-    match collected(rt) {
-        Ok(words) => Ok(words),
-        Err(error) => report(rt, program, "cannot read its arguments", error),
+// A program: what it runs on, and the name that its messages begin with.
+#[derive(Clone, Copy)]
+pub struct Program<'a> {
+    pub rt: &'a HostRuntime,
+    pub name: &'a str,
+}
+
+impl Program<'_> {
+    // The words behind the program's name.
+    pub fn arguments(&self) -> Result<Vec<String>, Failed> {
+        collected(self.rt).map_err(|error| self.cannot("read its arguments", error))
+    }
+
+    // The bytes of a file.
+    pub fn read_file(&self, path: &str) -> Result<Vec<u8>, Failed> {
+        fs::read(self.rt, path).map_err(|error| self.cannot(format_args!("read {path}"), error))
+    }
+
+    // Writes a file whole or not at all: what stood there before stays until the new file is complete.
+    pub fn save_file(&self, path: &str, bytes: &[u8]) -> Result<(), Failed> {
+        replaced(self.rt, path, bytes)
+            .map_err(|error| self.cannot(format_args!("write {path}"), error))
+    }
+
+    // Text on standard output, by one write.
+    pub fn print(&self, text: &str) -> Result<(), Failed> {
+        self.rt
+            .stdout()
+            .write_all(text.as_bytes())
+            .map_err(|error| self.cannot("write its answer", error))
+    }
+
+    // Text on standard error that an answer does not depend on.
+    pub fn hint(&self, text: &str) {
+        let _ = self.rt.stderr().write_all(text.as_bytes());
+    }
+
+    // The line of a refusal on standard output, or one on standard error where memory is short.
+    pub fn fail(&self, failure: Failure) -> Failed {
+        if let Failure::Refused(refusal) = failure
+            && let Ok(line) = refusal_line(self.rt.alloc(), refusal)
+        {
+            let _ = self.print(&line);
+        } else {
+            let _ = eprintln!(self.rt; "{}: not enough memory", self.name);
+        }
+        Failed
+    }
+
+    // One line on standard error that says what the program could not do.
+    fn cannot<W: Display + Drop>(&self, what: W, error: io::Error) -> Failed {
+        let _ = eprintln!(self.rt; "{}: cannot {what}: {error}", self.name);
+        Failed
     }
 }
 
 fn collected(rt: &HostRuntime) -> io::Result<Vec<String>> {
-    let mut words = Vec::new(rt.alloc());
-    for word in env::args(rt)?.skip(1) {
-        words.push(word)?;
-    }
-    Ok(words)
-}
-
-// The bytes of a file.
-pub fn read_file(rt: &HostRuntime, program: &str, path: &str) -> Result<Vec<u8>, Failed> {
-    match fs::read(rt, path) {
-        Ok(bytes) => Ok(bytes),
-        Err(error) => {
-            let _ = eprintln!(rt; "{program}: cannot read {path}: {error}");
-            Err(Failed)
-        }
-    }
-}
-
-// Writes a file whole or not at all: what stood there before stays until the new file is complete.
-pub fn save_file(rt: &HostRuntime, program: &str, path: &str, bytes: &[u8]) -> Result<(), Failed> {
-    match replaced(rt, path, bytes) {
-        Ok(()) => Ok(()),
-        Err(error) => {
-            let _ = eprintln!(rt; "{program}: cannot write {path}: {error}");
-            Err(Failed)
-        }
-    }
+    Ok(env::args(rt)?.skip(1).collect(rt.alloc())?)
 }
 
 // By a file beside it, which takes its name once it is on the disk.
 fn replaced(rt: &HostRuntime, path: &str, bytes: &[u8]) -> io::Result<()> {
-    let heap = rt.alloc();
-    let part = format!(in heap; "{path}.part")?;
-    let mut done = written(rt, part.as_str(), bytes);
-    if done.is_ok() {
-        done = fs::rename(rt, part.as_str(), path);
-    }
-    if done.is_err() {
-        let _ = fs::remove_file(rt, part.as_str());
-    }
-    done
+    let part = format!(in rt.alloc(); "{path}.part")?;
+    written(rt, &part, bytes)
+        .and_then(|()| fs::rename(rt, &part, path))
+        .inspect_err(|_| {
+            let _ = fs::remove_file(rt, &part);
+        })
 }
 
 fn written(rt: &HostRuntime, path: &str, bytes: &[u8]) -> io::Result<()> {
     let mut file = File::create(rt, path)?;
     file.write_all(bytes)?;
     file.sync_all()
-}
-
-// Text on standard output, by one write.
-pub fn print(rt: &HostRuntime, program: &str, text: &str) -> Result<(), Failed> {
-    match rt.stdout().write_all(text.as_bytes()) {
-        Ok(()) => Ok(()),
-        Err(error) => report(rt, program, "cannot write its answer", error),
-    }
-}
-
-// Text on standard error that an answer does not depend on.
-pub fn hint(rt: &HostRuntime, text: &str) {
-    let _ = rt.stderr().write_all(text.as_bytes());
-}
-
-// The line of a refusal on standard output, or one on standard error where memory is short.
-pub fn fail(rt: &HostRuntime, program: &str, failure: Failure) -> Failed {
-    let line = match failure {
-        Failure::Refused(refusal) => refusal_line(rt.alloc(), refusal),
-        Failure::Memory => Err(std::alloc::AllocError),
-    };
-    match line {
-        Ok(line) => {
-            let _ = print(rt, program, line.as_str());
-        }
-        Err(_) => {
-            let _ = eprintln!(rt; "{program}: not enough memory");
-        }
-    }
-    Failed
-}
-
-// One line on standard error that says what the program could not do.
-fn report<T>(rt: &HostRuntime, program: &str, what: &str, error: io::Error) -> Result<T, Failed> {
-    let _ = eprintln!(rt; "{program}: {what}: {error}");
-    Err(Failed)
 }

@@ -1,2 +1,4 @@
+pub mod Printed
+pub mod Values
 pub mod Texts
 pub mod Told

@@ -1,3 +1,4 @@
+pub mod Printing
 pub mod Lines
 pub mod Reports
 pub mod Basins

@@ -1,81 +1,70 @@
 // The lines of a row of changes: an answer to each, and hints; specs/Changing.antt says which bytes they are.
-ghost use Rattle.std.specs.Prelude.{◌≡◌, ◌++◌, IfOk, string_bytes, OnOk};
-ghost use Rattle.tables.specs.Changing.{changed_line, answer_line, said, hint_line, hint_if, hint};
-ghost use Rattle.tables.specs.Lines.{refused_at};
+ghost use Rattle.std.specs.Prelude.{◌≡◌, Some, IfOk, string_bytes};
+ghost use Rattle.std.specs.List.{flat_map};
+ghost use Rattle.tables.specs.Changing.{answer_text, answer_line, hint_text, hint, hint_at};
 
+use crate::printing::lines_of;
 use changes::answer::Answer;
-use changes::asked::{Asked, Change};
+use changes::asked::Asked;
 use std::alloc::{AllocError, Global};
+use std::fmt;
 
-// The line of a change that was made.
-fn push_changed(out: &mut String, leaves: u64, levels: u32) -> Result<(), AllocError>
-    ensures { OnOk result (string_bytes out.new ≡ string_bytes out.old ++ changed_line leaves levels) }
-{
-    match write!(out, "leaves {leaves} changed {levels}\n") {
-        Ok(()) => Ok(()),
-        Err(_) => Err(AllocError),
+// The answer to a change.
+#[derive(Clone, Copy)]
+struct AnswerLine(Answer);
+
+impl fmt::Display for AnswerLine {
+    ghost output = { λ l. Some (answer_text l.0) };
+
+    fn fmt<W: fmt::Write>(&self, f: &mut fmt::Formatter<W>) -> fmt::Result {
+        match self.0 {
+            Answer::Done(changed) => write!(
+                f,
+                "leaves {} changed {}",
+                changed.leaves.0, changed.levels
+            ),
+            Answer::Refused(refusal) => write!(
+                f,
+                "refused {} at {}",
+                refusal.number(),
+                refusal.place()
+            ),
+        }
     }
 }
 
-// The line of a change that was refused.
-fn push_refused(out: &mut String, number: u32, place: usize) -> Result<(), AllocError>
-    ensures { OnOk result (string_bytes out.new ≡ string_bytes out.old ++ refused_at number place) }
-{
-    match write!(out, "refused {number} at {place}\n") {
-        Ok(()) => Ok(()),
-        Err(_) => Err(AllocError),
-    }
+// A hint at a line that is no change, by its number.
+#[derive(Clone, Copy)]
+struct Hint {
+    line: usize,
 }
 
-// The line of an answer.
-fn push_answer(out: &mut String, answer: Answer) -> Result<(), AllocError>
-    ensures { OnOk result (string_bytes out.new ≡ string_bytes out.old ++ answer_line answer) }
-{
-    match answer {
-        Answer::Done(changed) => push_changed(out, changed.leaves.0, changed.levels),
-        Answer::Refused(refusal) => push_refused(out, refusal.number(), refusal.place()),
+impl fmt::Display for Hint {
+    ghost output = { λ h. Some (hint_text h.line) };
+
+    fn fmt<W: fmt::Write>(&self, f: &mut fmt::Formatter<W>) -> fmt::Result {
+        write!(f, "change: line {} is no change", self.line)
     }
 }
 
 // A line for each answer.
 pub(crate) fn lines_of_answers(heap: Global, answers: &[Answer]) -> Result<String, AllocError>
-    ensures { IfOk result (λ s. string_bytes s ≡ said answer_line answers.now) }
+    ensures { IfOk result (λ s. string_bytes s ≡ flat_map answer_line answers.now) }
 {
-    let mut out = String::new(heap);
-    for k in 0..answers.len() {
-        push_answer(&mut out, answers[k])?;
-    }
-    Ok(out)
+    lines_of(heap, answers.iter().copied().map(AnswerLine))
 }
 
-// The hint at a line that is no change.
-fn push_hint(out: &mut String, line: usize) -> Result<(), AllocError>
-    ensures { OnOk result (string_bytes out.new ≡ string_bytes out.old ++ hint_line line) }
+// The hint at what is asked for, if it is no change.
+fn hint_at(asked: &Asked) -> Option<Hint>
+    ensures { result ≡ hint_at asked.now }
 {
-    match write!(out, "change: line {line} is no change\n") {
-        Ok(()) => Ok(()),
-        Err(_) => Err(AllocError),
-    }
-}
-
-// The hint at a line, if it is no change.
-fn push_hint_if(out: &mut String, line: usize, change: Option<Change>) -> Result<(), AllocError>
-    ensures { OnOk result (string_bytes out.new ≡ string_bytes out.old ++ hint_if line change) }
-{
-    match change {
-        Some(_) => Ok(()),
-        None => push_hint(out, line),
-    }
+    let line = asked.line;
+    asked.change.is_none().then_some(Hint { line })
 }
 
 // The hints at all lines of a row that are no change.
 pub(crate) fn lines_of_hints(heap: Global, row: &[Asked]) -> Result<String, AllocError>
-    ensures { IfOk result (λ s. string_bytes s ≡ said hint row.now) }
+    ensures { IfOk result (λ s. string_bytes s ≡ flat_map hint row.now) }
 {
-    let mut out = String::new(heap);
-    for k in 0..row.len() {
-        let asked = row[k];
-        push_hint_if(&mut out, asked.line, asked.change)?;
-    }
-    Ok(out)
+    lines_of(heap, row.iter().filter_map(hint_at))
 }

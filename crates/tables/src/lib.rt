@@ -6,6 +6,7 @@ pub mod changing;
 pub mod failure;
 pub mod lines;
 pub mod parting;
+mod printing;
 pub mod report;
 pub mod reports;
 mod rows;

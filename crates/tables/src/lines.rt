@@ -1,135 +1,123 @@
 // The lines that are printed of a drained model; specs/Lines.antt says which bytes they are.
-ghost use Rattle.std.specs.Prelude.{◌≡◌, ◌<◌, ◌++◌, IfOk, string_bytes, OnOk, slice_index};
+ghost use Rattle.std.specs.Prelude.{◌≡◌, ◌++◌, Some, IfOk, string_bytes, OnOk, slice_index};
 ghost use Rattle.model.specs.Bytes.{count};
 ghost use Rattle.model.specs.OfModel.{bytes_of};
 ghost use Rattle.amounts.specs.Joined.{joined};
-ghost use Rattle.tables.specs.Lines.{summary, level_line, exit_line, level_if, exit_if, refused_at, refusal_line, if_in, level_of, exit_of, drain_lines};
+ghost use Rattle.tables.specs.Lines.{refused_text, summary_text, level_text, exit_text, refusal_line, level_of, exit_of, level_above, exit_above, drain_lines};
 
+use crate::printing::{push_line, push_lines};
 use amounts::answer::Drained;
 use amounts::passing::leaves_at;
 use model::land::Model;
 use model::refusal::Refusal;
 use model::units::{Amount, Cell, Height};
 use std::alloc::{AllocError, Global};
+use std::fmt;
 
-// The line of a refusal by its number and its place.
-fn refused_at(heap: Global, number: u32, place: usize) -> Result<String, AllocError>
-    ensures { IfOk result (λ s. string_bytes s ≡ refused_at number place) }
-{
-    format!(in heap; "refused {number} at {place}\n")
+// A refusal.
+#[derive(Clone, Copy)]
+struct Refused(Refusal);
+
+impl fmt::Display for Refused {
+    ghost output = { λ r. Some (refused_text r.0) };
+
+    fn fmt<W: fmt::Write>(&self, f: &mut fmt::Formatter<W>) -> fmt::Result {
+        write!(f, "refused {} at {}", self.0.number(), self.0.place())
+    }
 }
 
 // The line of a refusal.
 pub fn refusal_line(heap: Global, refusal: Refusal) -> Result<String, AllocError>
     ensures { IfOk result (λ s. string_bytes s ≡ refusal_line refusal) }
 {
-    refused_at(heap, refusal.number(), refusal.place())
+    let refused = Refused(refusal);
+    format!(in heap; "{refused}\n")
 }
 
-// The first line: how many cells, what rained, what leaves.
-fn summary_line(
-    heap: Global,
+// How many cells a model has, what rained on it and what leaves it.
+#[derive(Clone, Copy)]
+struct Summary {
     cells: u32,
     rain: Amount,
     leaves: Amount,
-) -> Result<String, AllocError>
-    ensures { IfOk result (λ s. string_bytes s ≡ summary cells rain.0 leaves.0) }
-{
-    let rain = rain.0;
-    let leaves = leaves.0;
-    format!(in heap; "cells {cells} rain {rain} leaves {leaves}\n")
 }
 
-// The line of a cell's level.
-fn push_level_line(out: &mut String, cell: u32, level: u32) -> Result<(), AllocError>
-    ensures { OnOk result (string_bytes out.new ≡ string_bytes out.old ++ level_line cell level) }
-{
-    match write!(out, "level {cell} {level}\n") {
-        Ok(()) => Ok(()),
-        Err(_) => Err(AllocError),
+impl fmt::Display for Summary {
+    ghost output = { λ s. Some (summary_text s.cells s.rain.0 s.leaves.0) };
+
+    fn fmt<W: fmt::Write>(&self, f: &mut fmt::Formatter<W>) -> fmt::Result {
+        write!(
+            f,
+            "cells {} rain {} leaves {}",
+            self.cells, self.rain.0, self.leaves.0
+        )
     }
 }
 
-// The line of what leaves at an exit.
-fn push_exit_line(out: &mut String, cell: u32, amount: u64) -> Result<(), AllocError>
-    ensures { OnOk result (string_bytes out.new ≡ string_bytes out.old ++ exit_line cell amount) }
-{
-    match write!(out, "exit {cell} amount {amount}\n") {
-        Ok(()) => Ok(()),
-        Err(_) => Err(AllocError),
+// A cell's level.
+#[derive(Clone, Copy)]
+struct Level {
+    cell: Cell,
+    level: Height,
+}
+
+impl fmt::Display for Level {
+    ghost output = { λ l. Some (level_text l.cell.0 l.level.0) };
+
+    fn fmt<W: fmt::Write>(&self, f: &mut fmt::Formatter<W>) -> fmt::Result {
+        write!(f, "level {} {}", self.cell.0, self.level.0)
     }
 }
 
-// A cell's level, where it is above its height.
-fn push_level(out: &mut String, cell: Cell, height: Height, level: Height) -> Result<(), AllocError>
-    ensures { OnOk result (string_bytes out.new ≡ string_bytes out.old ++ level_if cell.0 height.0 level.0) }
-{
-    if level.0 > height.0 {
-        push_level_line(out, cell.0, level.0)?;
-    }
-    Ok(())
+// What leaves at a cell.
+#[derive(Clone, Copy)]
+struct Exit {
+    cell: Cell,
+    amount: Amount,
 }
 
-// What leaves at a cell, where it is above the cell's own rain.
-fn push_exit(out: &mut String, cell: Cell, rain: Amount, leaves: Amount) -> Result<(), AllocError>
-    ensures { OnOk result (string_bytes out.new ≡ string_bytes out.old ++ exit_if cell.0 rain.0 leaves.0) }
-{
-    if leaves.0 > rain.0 {
-        push_exit_line(out, cell.0, leaves.0)?;
+impl fmt::Display for Exit {
+    ghost output = { λ e. Some (exit_text e.cell.0 e.amount.0) };
+
+    fn fmt<W: fmt::Write>(&self, f: &mut fmt::Formatter<W>) -> fmt::Result {
+        write!(f, "exit {} amount {}", self.cell.0, self.amount.0)
     }
-    Ok(())
 }
 
 // A cell's level in a slice of levels, 0 where it has none.
 fn level_at(levels: &[u32], cell: Cell) -> Height
     ensures { result.0 ≡ slice_index levels.now cell.0 }
 {
-    if cell.index() < levels.len() {
-        Height(levels[cell.index()])
-    } else {
-        Height(0)
-    }
+    Height(levels.get(cell.index()).copied().unwrap_or(0))
 }
 
-// The line of a cell of the model whose level is above its height.
-fn push_level_of(
-    out: &mut String,
-    model: &Model<'_>,
-    levels: &[u32],
-    cell: Cell,
-) -> Result<(), AllocError>
-    ensures { OnOk result (string_bytes out.new ≡ string_bytes out.old ++ if_in (bytes_of model.now) cell.0 (level_of (bytes_of model.now) levels.now cell.0)) }
+// A cell's level, if there is such a cell and its level is above its height.
+fn level_above(model: &Model<'_>, levels: &[u32], cell: Cell) -> Option<Level>
+    ensures { result ≡ level_above (bytes_of model.now) levels.now cell.0 }
 {
-    match model.height(cell) {
-        Some(height) => push_level(out, cell, height, level_at(levels, cell)),
-        None => Ok(()),
-    }
+    let height = model.height(cell)?;
+    let level = level_at(levels, cell);
+    (level > height).then_some(Level { cell, level })
 }
 
-// The line of a cell of the model at which more leaves than rains on it.
-fn push_exit_of(
-    out: &mut String,
-    model: &Model<'_>,
-    flow: &[u32],
-    amounts: &[u64],
-    cell: Cell,
-) -> Result<(), AllocError>
-    ensures { OnOk result (string_bytes out.new ≡ string_bytes out.old ++ if_in (bytes_of model.now) cell.0 (exit_of (bytes_of model.now) flow.now amounts.now cell.0)) }
+// What leaves at a cell, if there is such a cell and more leaves than rains on it.
+fn exit_above(model: &Model<'_>, flow: &[u32], amounts: &[u64], cell: Cell) -> Option<Exit>
+    ensures { result ≡ exit_above (bytes_of model.now) flow.now amounts.now cell.0 }
 {
-    match model.rain(cell) {
-        Some(rain) => push_exit(out, cell, rain, leaves_at(flow, amounts, cell)),
-        None => Ok(()),
-    }
+    let rain = model.rain(cell)?;
+    let amount = leaves_at(flow, amounts, cell);
+    (amount > rain).then_some(Exit { cell, amount })
 }
 
 // The lines of all cells whose level is above their height.
 fn push_levels(out: &mut String, model: &Model<'_>, levels: &[u32]) -> Result<(), AllocError>
     ensures { OnOk result (string_bytes out.new ≡ string_bytes out.old ++ joined (level_of (bytes_of model.now) levels.now) (count (bytes_of model.now))) }
 {
-    for c in 0..model.cells() {
-        push_level_of(out, model, levels, Cell(c))?;
-    }
-    Ok(())
+    let cells = 0..model.cells();
+    push_lines(
+        out,
+        cells.filter_map(|c| level_above(model, levels, Cell(c))),
+    )
 }
 
 // The lines of all cells at which more leaves than rains on them.
@@ -141,10 +129,11 @@ fn push_exits(
 ) -> Result<(), AllocError>
     ensures { OnOk result (string_bytes out.new ≡ string_bytes out.old ++ joined (exit_of (bytes_of model.now) flow.now amounts.now) (count (bytes_of model.now))) }
 {
-    for c in 0..model.cells() {
-        push_exit_of(out, model, flow, amounts, Cell(c))?;
-    }
-    Ok(())
+    let cells = 0..model.cells();
+    push_lines(
+        out,
+        cells.filter_map(|c| exit_above(model, flow, amounts, Cell(c))),
+    )
 }
 
 // All lines of a drained model.
@@ -158,7 +147,17 @@ pub fn drain_lines(
 ) -> Result<String, AllocError>
     ensures { IfOk result (λ s. string_bytes s ≡ drain_lines (bytes_of model.now) levels.now flow.now amounts.now answer.rain.0 answer.leaves.0) }
 {
-    let mut out = summary_line(heap, model.cells(), answer.rain, answer.leaves)?;
+    let Drained { rain, leaves, .. } = answer;
+    let mut out = String::new(heap);
+    let cells = model.cells();
+    push_line(
+        &mut out,
+        &Summary {
+            cells,
+            rain,
+            leaves,
+        },
+    )?;
     push_levels(&mut out, model, levels)?;
     push_exits(&mut out, model, flow, amounts)?;
     Ok(out)

@@ -1,13 +1,14 @@
 // The lines of a model's basins.
-ghost use Rattle.std.specs.Prelude.{◌≡◌, ◌*◌, ◌++◌, length, IfOk, None, string_bytes, MatchResult, OnOk};
+ghost use Rattle.std.specs.Prelude.{◌≡◌, ◌*◌, length, Some, None, IfOk, string_bytes, MatchResult};
 ghost use Rattle.model.specs.Bytes.{count};
 ghost use Rattle.model.specs.Faults.{fault};
 ghost use Rattle.model.specs.OfModel.{bytes_of};
 ghost use Rattle.amounts.specs.Joined.{joined};
 ghost use Rattle.basins.specs.Parting.{basin_at};
-ghost use Rattle.tables.specs.Basins.{basin_line, basin_if, basins_text};
+ghost use Rattle.tables.specs.Basins.{basin_text, basin_if, basins_text};
 ghost use Rattle.tables.specs.Reports.{Fails};
 
+use crate::printing::lines_of;
 use basins::draining::drain_basins;
 use basins::parting::{Basin, basin_at};
 use changes::failure::Failure;
@@ -15,24 +16,22 @@ use model::land::Model;
 use model::reading::read;
 use model::units::Cell;
 use std::alloc::{AllocError, Global};
+use std::fmt;
 
-// The line of a basin: its exit, how many cells it has, and what leaves it.
-fn push_basin(out: &mut String, cell: u32, cells: u32, amount: u64) -> Result<(), AllocError>
-    ensures { OnOk result (string_bytes out.new ≡ string_bytes out.old ++ basin_line cell cells amount) }
-{
-    match write!(out, "exit {cell} cells {cells} amount {amount}\n") {
-        Ok(()) => Ok(()),
-        Err(_) => Err(AllocError),
-    }
-}
+// A basin: its exit, how many cells it has, and what leaves it.
+#[derive(Clone, Copy)]
+struct BasinLine(Basin);
 
-// The line of the basin at a cell, if there is one.
-fn push_basin_if(out: &mut String, basin: Option<Basin>) -> Result<(), AllocError>
-    ensures { OnOk result (string_bytes out.new ≡ string_bytes out.old ++ basin_if basin) }
-{
-    match basin {
-        Some(basin) => push_basin(out, basin.outlet.0, basin.cells, basin.amount.0),
-        None => Ok(()),
+impl fmt::Display for BasinLine {
+    ghost output = { λ l. Some (basin_text l.0) };
+
+    fn fmt<W: fmt::Write>(&self, f: &mut fmt::Formatter<W>) -> fmt::Result {
+        let BasinLine(basin) = self;
+        write!(
+            f,
+            "exit {} cells {} amount {}",
+            basin.outlet.0, basin.cells, basin.amount.0
+        )
     }
 }
 
@@ -46,11 +45,8 @@ fn basin_lines(
 ) -> Result<String, AllocError>
     ensures { IfOk result (λ s. string_bytes s ≡ joined (λ e. basin_if (basin_at flow.now amounts.now cells.now e)) n) }
 {
-    let mut out = String::new(heap);
-    for c in 0..n {
-        push_basin_if(&mut out, basin_at(flow, amounts, cells, Cell(c)))?;
-    }
-    Ok(out)
+    let basins = (0..n).filter_map(|c| basin_at(flow, amounts, cells, Cell(c)));
+    lines_of(heap, basins.map(BasinLine))
 }
 
 // The lines of the basins of a model that was read, drained into slices of just the lengths that it needs.

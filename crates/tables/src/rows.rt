@@ -8,13 +8,6 @@ use flood::sends::Sends;
 use model::units::{Amount, Height};
 use std::alloc::{AllocError, Global};
 
-// One row more.
-fn push_row(table: &mut Vec<u8>, row: Row) -> Result<(), AllocError>
-    ensures { OnOk result (table.new.items ≡ table.old.items ++ bytes_of row) }
-{
-    table.extend_from_slice(&row.to_bytes())
-}
-
 // A row for each cell, from slices that have an entry for each.
 pub(crate) fn table_rows(
     heap: Global,
@@ -28,14 +21,15 @@ pub(crate) fn table_rows(
     ensures { IfOk result (λ t. t.items ≡ joined (row_from levels.now flow.now places.now amounts.now) (length levels.now)) }
 {
     let mut table = Vec::with_capacity(heap, levels.len().saturating_mul(ROW_BYTES))?;
-    for c in 0..levels.len() {
+    let cells = levels.iter().zip(flow).zip(places).zip(amounts);
+    for (((level, sends), place), amount) in cells {
         let row = Row {
-            level: Height(levels[c]),
-            sends: Sends::of_code(flow[c]),
-            place: places[c] as u32,
-            amount: Amount(amounts[c]),
+            level: Height(*level),
+            sends: Sends::of_code(*sends),
+            place: *place as u32,
+            amount: Amount(*amount),
         };
-        push_row(&mut table, row)?;
+        table.extend_from_slice(&row.to_bytes())?;
     }
     Ok(table)
 }

@@ -1,10 +1,18 @@
-use Rattle.std.proofs.Common.{arith}
-use Rattle.tables.specs.Changing.{answer_line}
-use Rattle.tables.proofs.Texts.{said_more, said_all}
+use Rattle.std.proofs.Common.{refl, rules}
+use Rattle.std.proofs.lemmas.Iterator.{YieldsList-from_slice, YieldsList-from_map}
+use Rattle.std.proofs.lemmas.Iterator.Consumers.{YieldsList-at, YieldsList-from_copied}
+use Rattle.std.proofs.lemmas.List.Folds.{flat_map-map}
+use Rattle.changes.specs.declared.answer.Answer.{Answer}
+use Rattle.tables.specs.declared.answers.AnswerLine.{AnswerLine}
+use Rattle.tables.specs.Changing.{answer_text}
+use Rattle.tables.proofs.Printed.{all_lines}
 use Rattle.tables.proofs.answers.lines_of_answers.Goals as goal
 
-pub loop-k-preserved : goal.loop-k-preserved
-loop-k-preserved c = said_more answer_line c.args.answers.now _ _ c.loop-k.k _ (omega arith) c.loop-k.invariant c.in_ok-push_answer.ensures
+abbrev line_of : Answer → AnswerLine
+line_of a = record { 0 = a }
 
 pub returns : goal.returns
-returns c = said_all answer_line c.args.answers.now _ c.loop-k.k (omega arith) c.loop-k.invariant
+returns c =
+    let answers = c.args.answers.now in
+    all_lines (λ l. answer_text l.0) _ c.lines_of.result c.lines_of.ensures (λ x. refl)
+    (YieldsList-from_map _ line_of (YieldsList-at c.map.ensures.source (YieldsList-from_copied (YieldsList-from_slice answers cc))) c.map.ensures.closure (λ x r q k. search rules)) (flat_map-map _ line_of answers)

@@ -1,5 +1,6 @@
 -- What the row left is what the text and the table say.
 use Rattle.std.proofs.Common.{◌-◌, ◌*◌, ◌++◌, length, sym, ap, ◌∙◌, subst, ap₂, arith, length-drop, length-take}
+use Rattle.std.specs.List.{flat_map}
 use Rattle.std.proofs.lemmas.Result.{err_from_is_err_and}
 use Rattle.model.proofs.Taken.{well_formed}
 use Rattle.amounts.specs.Promise.{table_bytes}
@@ -8,7 +9,7 @@ use Rattle.changes.proofs.Edits.{Kept, kept_count}
 use Rattle.changes.proofs.RowLoop.{row_kept}
 use Rattle.checker.specs.Faults.{check_fault}
 use Rattle.checker.proofs.DrainedTable.{drained_accepted}
-use Rattle.tables.specs.Changing.{said, answer_line}
+use Rattle.tables.specs.Changing.{answer_line}
 use Rattle.tables.proofs.Told.{memory_only, places_end, rows_told, places_low}
 use Rattle.tables.proofs.changing.changed_into.Goals as goal
 
@@ -46,7 +47,7 @@ returns c =
     let rows = rows_told cs _ _ _ _ _ _ _ c.apply_row.new.work _ (3 * n - 2 * n) (2 * n) (drained_of cs) k.sound a.promise (q.levels ∙ sym same) (q.flow ∙ sym same) (q.amounts ∙ sym same) (omega (arith, q.work, same)) (omega (arith, q.levels, same)) (omega (arith, q.levels, same)) c.in_ok-table.ensures in
     let model = c.in_ok-extend_from_slice.ensures.items ∙ ap (λ xs. xs ++ cs) c.new-model.ensures.items in
     record {
-      lines = c.in_ok-text.ensures ∙ ap (said answer_line) (c.as_slice.ensures.value ∙ a.answered);
+      lines = c.in_ok-text.ensures ∙ ap (flat_map answer_line) (c.as_slice.ensures.value ∙ a.answered);
       hints = c.in_ok-hints.ensures;
       model = model ∙ a.bytes;
       rows = rows ∙ ap table_bytes a.bytes;
