@@ -2,3 +2,4 @@ pub mod Printed
 pub mod Values
 pub mod Texts
 pub mod Told
+pub mod Rowed

@@ -1,77 +1,80 @@
--- The text of a model, from what draining left in slices of just the lengths that it needs.
-use Rattle.std.proofs.Common.{◌≡◌, ℕ, ◌+◌, ◌*◌, ◌^◌, ◌<◌, List, ◌++◌, length, get_or, take, drop, Some, None, sym, refl, ap, ◌∙◌, subst, ap₂, append-nil, arith}
-use Rattle.std.proofs.lemmas.List.{drop_all, drop-drop, take_at, drop_at}
-use Rattle.std.proofs.lemmas.Bool.Decides.{nat_tests}
-use Rattle.model.specs.declared.refusal.Refusal.{Refusal}
+-- The text and the table of a model, from what draining left in slices of just the lengths that it needs.
+use Rattle.std.proofs.Common.{◌≡◌, ℕ, ◌+◌, ◌*◌, ◌^◌, ◌<◌, List, ◌++◌, length, get_or, drop, sym, refl, ap, ◌∙◌, subst, append-nil, length-append, ap₂, arith}
+use Rattle.std.proofs.lemmas.List.{length-replicate}
+use Rattle.std.proofs.lemmas.List.{drop_all, drop-drop, drop_at}
 use Rattle.model.specs.Bytes.{count}
-use Rattle.model.specs.Faults.{or_else, fault}
+use Rattle.model.specs.Slices.{Contents}
 use Rattle.model.specs.Terrain.{terrain}
 use Rattle.model.specs.WellFormed.{WellFormed}
 use Rattle.flood.specs.Flooded.{table_of}
 use Rattle.flood.proofs.Models.{models_right}
-use Rattle.flood.proofs.Turns.{sound, small, table_long}
+use Rattle.flood.proofs.Turns.{sound, small}
 use Rattle.amounts.specs.declared.answer.Drained.{Drained}
-use Rattle.amounts.specs.Draining.{room_fault, drain_fault}
 use Rattle.amounts.specs.Joined.{joined, row_from}
+use Rattle.amounts.specs.Passing.{table_amounts}
 use Rattle.amounts.specs.Promise.{Promise, table_bytes}
-use Rattle.changes.specs.declared.failure.Failure.{Failure}
-use Rattle.changes.specs.declared.failure.Failure.TheVariants.{Refused, Memory}
-use Rattle.changes.specs.Row.{Fails as RowFails}
+use Rattle.amounts.proofs.Passes.{table_long}
+use Rattle.amounts.proofs.Promised.{long_amounts}
 use Rattle.tables.specs.Lines.{drain_lines}
+use Rattle.tables.specs.Memory.{zeros, JustLong}
 use Rattle.tables.specs.Reports.{drain_text}
+
+-- memory that is lent whole
+pub lent_long : (n : ℕ) (memory lent : Contents) → memory ≡ zeros n → lent ≡ memory → JustLong n lent
+lent_long n memory lent e f =
+    subst (JustLong n) (sym (f ∙ e)) (record { levels = length-replicate n 0; flow = length-replicate n 0; amounts = length-replicate n 0; work = length-replicate (3 * n) 0 })
 
 -- nothing lies behind a table in a slice of its length
 front_only : (xs ys zs : List ℕ) (n : ℕ) → ys ≡ zs ++ drop n xs → length xs ≡ n → ys ≡ zs
 front_only xs ys zs n e long = e ∙ (ap (λ t. zs ++ t) (drop_all n xs (omega arith)) ∙ append-nil zs)
 
-same_lines : (bs a a' b b' c c' : List ℕ) (r r' l l' : ℕ) → a ≡ a' → b ≡ b' → c ≡ c' → r ≡ r' → l ≡ l' → drain_lines bs a b c r l ≡ drain_lines bs a' b' c' r' l'
-same_lines bs a a' b b' c c' r r' l l' e f g h i = rw (e, f, g, h, i) refl
+-- slices that hold a model's table, and nothing behind it
+pub record Holds (bs : List ℕ) (s : Contents) : Type 0 where
+  pub levels : s.levels ≡ (table_of bs).levels
+  pub flow : s.flow ≡ (table_of bs).flow
+  pub amounts : s.amounts ≡ table_amounts bs
+  pub work : s.work ≡ (table_of bs).queue ++ ((table_of bs).order ++ (table_of bs).places)
 
-same_rows : (a a' b b' p p' c c' : List ℕ) (n n' : ℕ) → a ≡ a' → b ≡ b' → p ≡ p' → c ≡ c' → n ≡ n' → joined (row_from a b p c) n ≡ joined (row_from a' b' p' c') n'
-same_rows a a' b b' p p' c c' n n' e f g h i = rw (e, f, g, h, i) refl
-
--- the last third of the work
-pub places_end : (bs : List ℕ) → WellFormed bs → (wk wk' : List ℕ) (j k : ℕ) → j ≡ count bs → k ≡ 2 * count bs → length wk ≡ 3 * count bs →
-    wk' ≡ (table_of bs).queue ++ ((table_of bs).order ++ ((table_of bs).places ++ drop (3 * count bs) wk)) → take j (drop k wk') ≡ (table_of bs).places
-places_end bs wf wk wk' j k ej ek long w =
+pub holds : (bs : List ℕ) (old new : Contents) (d : Drained) → Promise bs old new d → JustLong (count bs) old → Holds bs new
+holds bs old new d p long =
     let n = count bs in
     let s = table_of bs in
-    let l = table_long bs wf in
-    let twice : 2 * n ≡ n + n = omega arith in
-    let none = drop_all (3 * n) wk (omega arith) in
-    ap₂ (λ x y. take x (drop y wk')) ej (ek ∙ twice) ∙ (ap (λ t. take n (drop (n + n) t)) w ∙ (ap (take n) (sym (drop-drop n n _)) ∙
-    (ap (λ t. take n (drop n t)) (drop_at s.queue _ n l.queue) ∙ (ap (take n) (drop_at s.order _ n l.order) ∙ take_at s.places _ n l.places))))
+    record {
+      levels = front_only old.levels new.levels s.levels n p.written.levels long.levels;
+      flow = front_only old.flow new.flow s.flow n p.written.flow long.flow;
+      amounts = front_only old.amounts new.amounts (table_amounts bs) n p.poured long.amounts;
+      work = p.written.work ∙ ap (λ t. s.queue ++ (s.order ++ t)) (front_only old.work (s.places ++ drop (3 * n) old.work) s.places (3 * n) refl long.work);
+    }
 
-pub told : (bs ls fl am wk ls' fl' am' wk' text : List ℕ) (d : Drained) → Promise bs ls fl am wk ls' fl' am' wk' d → length ls ≡ count bs → length fl ≡ count bs → length am ≡ count bs →
-    text ≡ drain_lines bs ls' fl' am' d.rain.0 d.leaves.0 → text ≡ drain_text bs
-told bs ls fl am wk ls' fl' am' wk' text d p a b c e =
-    let levels = front_only ls ls' _ (count bs) p.written.levels a in
-    let flow = front_only fl fl' _ (count bs) p.written.flow b in
-    let amounts = front_only am am' _ (count bs) p.poured c in
-    e ∙ same_lines bs _ _ _ _ _ _ _ _ _ _ levels flow amounts p.rain p.leaves
+pub told : (bs : List ℕ) (old new : Contents) (d : Drained) (text : List ℕ) → Promise bs old new d → Holds bs new → text ≡ drain_lines bs new.levels new.flow new.amounts d.rain.0 d.leaves.0 → text ≡ drain_text bs
+told bs old new d text p h e = e ∙ rw (h.levels, h.flow, h.amounts, p.rain, p.leaves) refl
 
--- nothing is refused
-pub none_refused : (bs ls fl am wk : List ℕ) (e : Refusal) → fault bs ≡ None → length ls ≡ count bs → length fl ≡ count bs → length am ≡ count bs → length wk ≡ 3 * count bs → Some e ≡ drain_fault bs ls fl am wk → ⊥
-none_refused bs ls fl am wk e f a b c d g =
-    let none : drain_fault bs ls fl am wk ≡ None = ap (λ o. or_else o (room_fault (count bs) ls fl am wk)) f ∙ grind (arith, nat_tests) in
-    grind (arith, g ∙ none)
+module _ (bs : List ℕ) (wf : WellFormed bs) (s : Contents) (h : Holds bs s) where
+  levels_long : length s.levels ≡ count bs
+  levels_long = ap length h.levels ∙ (table_long bs wf).levels
 
--- the rows of the table
-pub rows_told : (bs ls fl am wk ls' fl' am' wk' table : List ℕ) (j k : ℕ) (d : Drained) → WellFormed bs → Promise bs ls fl am wk ls' fl' am' wk' d → length ls ≡ count bs → length fl ≡ count bs → length am ≡ count bs →
-    length wk ≡ 3 * count bs → j ≡ count bs → k ≡ 2 * count bs → table ≡ joined (row_from ls' fl' (take j (drop k wk')) am') (length ls') → table ≡ table_bytes bs
-rows_told bs ls fl am wk ls' fl' am' wk' table j k d wf p a b c w ej ek e =
-    let levels = front_only ls ls' _ (count bs) p.written.levels a in
-    let flow = front_only fl fl' _ (count bs) p.written.flow b in
-    let amounts = front_only am am' _ (count bs) p.poured c in
-    let places = places_end bs wf wk wk' j k ej ek w p.written.work in
-    let n : length ls' ≡ count bs = ap length levels ∙ (table_long bs wf).levels in
-    e ∙ same_rows _ _ _ _ _ _ _ _ _ _ levels flow places amounts n
+  -- what is asked of slices that are put into rows
+  pub just_long : JustLong (length s.levels) s
+  just_long =
+      let l = table_long bs wf in
+      record {
+        levels = refl;
+        flow = ap length h.flow ∙ (l.flow ∙ sym levels_long);
+        amounts = ap length h.amounts ∙ (long_amounts bs wf ∙ sym levels_long);
+        work = ap length h.work ∙ simp length-append (omega (arith, levels_long));
+      }
 
--- and places are numbers of cells
-pub places_low : (bs : List ℕ) → WellFormed bs → (xs : List ℕ) (n : ℕ) → xs ≡ (table_of bs).places → n ≡ count bs → (c : ℕ) → c < n → get_or xs c 0 < 2 ^ 32
-places_low bs wf xs n e f c a = subst (λ ys. get_or ys c 0 < 2 ^ 32) (sym e) (omega (arith, small bs wf, (models_right (terrain bs) (sound bs wf)).lined.place c (omega arith)))
+  -- the places stand in the last third of the work
+  places_at : drop (2 * length s.levels) s.work ≡ (table_of bs).places
+  places_at =
+      let n = count bs in
+      let t = table_of bs in
+      let l = table_long bs wf in
+      let twice : 2 * length s.levels ≡ n + n = omega (arith, levels_long) in
+      ap₂ drop twice h.work ∙ (sym (drop-drop n n _) ∙ (ap (drop n) (drop_at t.queue _ n l.queue) ∙ drop_at t.order t.places n l.order))
 
--- only memory can be short where a row is applied to a model that was read, in slices of just the lengths that it needs
-pub memory_only : (bs ls fl am wk : List ℕ) (f : Failure) → fault bs ≡ None → length ls ≡ count bs → length fl ≡ count bs → length am ≡ count bs → length wk ≡ 3 * count bs → RowFails bs ls fl am wk f → f ≡ Memory
-memory_only bs ls fl am wk (Refused r) t a b c d e = absurd (none_refused bs ls fl am wk r t a b c d (sym e))
-memory_only bs ls fl am wk Memory t a b c d e = refl
+  pub places_low : (c : ℕ) → c < length s.levels → get_or (drop (2 * length s.levels) s.work) c 0 < 2 ^ 32
+  places_low c a = subst (λ ys. get_or ys c 0 < 2 ^ 32) (sym places_at) (omega (arith, small bs wf, (models_right (terrain bs) (sound bs wf)).lined.place c (omega (arith, levels_long))))
+
+  pub rows_told : (rows : List ℕ) → rows ≡ joined (row_from s.levels s.flow (drop (2 * length s.levels) s.work) s.amounts) (length s.levels) → rows ≡ table_bytes bs
+  rows_told rows e = e ∙ (ap₂ joined (rw (places_at, h.levels, h.flow, h.amounts) refl) levels_long)

@@ -1,18 +1,17 @@
 -- What is told of a row of changes.
-use Rattle.std.specs.Prelude.{◌≡◌, ℕ, cond, List, [], ◌++◌, map, length, Some, None, vec_items, string_bytes, codes, decimal, Option, is_some}
+use Rattle.std.specs.Prelude.{◌≡◌, ℕ, cond, List, [], ◌++◌, map, length, Some, None, Ok, Err, Result, vec_items, string_bytes, codes, decimal, Option, is_some}
 use Rattle.std.specs.List.{range_with_len, flat_map}
+use Rattle.model.specs.declared.refusal.Refusal.{Refusal}
 use Rattle.model.specs.Faults.{fault}
+use Rattle.model.specs.Refusals.{refused_text}
 use Rattle.amounts.specs.Promise.{table_bytes}
-use Rattle.changes.specs.declared.answer.Answer.{Answer}
 use Rattle.changes.specs.declared.answer.Changed.{Changed}
-use Rattle.changes.specs.declared.answer.Answer.TheVariants.{Done, Refused}
 use Rattle.changes.specs.declared.asked.Asked.{Asked}
 use Rattle.changes.specs.declared.asked.Change.{Change}
 use Rattle.changes.specs.Applied.{bytes_after, answer_at}
 use Rattle.changes.specs.Text.{row_of}
 use Rattle.checker.specs.Faults.{check_fault}
 use Rattle.tables.specs.declared.report.RowReport.{RowReport}
-use Rattle.tables.specs.Lines.{refused_text}
 use Rattle.tables.specs.declared.answers.Hint.{Hint}
 use Rattle.tables.specs.Printing.{line}
 
@@ -21,11 +20,11 @@ abbrev pub changed_text : Changed → List ℕ
 changed_text d = codes "leaves " ++ (decimal d.leaves.0 ++ (codes " changed " ++ decimal d.levels))
 
 -- an answer, and its line
-abbrev pub answer_text : Answer → List ℕ
-answer_text (Done d) = changed_text d
-answer_text (Refused r) = refused_text r
+abbrev pub answer_text : Result Changed Refusal → List ℕ
+answer_text (Ok d) = changed_text d
+answer_text (Err r) = refused_text r
 
-abbrev pub answer_line : Answer → List ℕ
+abbrev pub answer_line : Result Changed Refusal → List ℕ
 answer_line a = line (answer_text a)
 
 -- a hint at a line that is no change

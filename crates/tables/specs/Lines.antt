@@ -2,7 +2,7 @@
 use Rattle.std.specs.Prelude.{ℕ, cond, ◌&&◌, List, [], ◌++◌, Some, None, codes, decimal, nat_lt, slice_index, Option}
 use Rattle.model.specs.declared.refusal.Refusal.{Refusal}
 use Rattle.model.specs.Bytes.{count, height_at, rain_at}
-use Rattle.model.specs.Refusals.{number, place}
+use Rattle.model.specs.Refusals.{refused_text}
 use Rattle.amounts.specs.Joined.{joined}
 use Rattle.amounts.specs.Passing.{leaves_at}
 use Rattle.tables.specs.declared.lines.Exit.{Exit}
@@ -10,9 +10,6 @@ use Rattle.tables.specs.declared.lines.Level.{Level}
 use Rattle.tables.specs.Printing.{line}
 
 -- a refusal
-abbrev pub refused_text : Refusal → List ℕ
-refused_text r = codes "refused " ++ (decimal (number r) ++ (codes " at " ++ decimal (place r)))
-
 abbrev pub refusal_line : Refusal → List ℕ
 refusal_line r = line (refused_text r)
 

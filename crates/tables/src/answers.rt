@@ -18,17 +18,8 @@ impl fmt::Display for AnswerLine {
 
     fn fmt<W: fmt::Write>(&self, f: &mut fmt::Formatter<W>) -> fmt::Result {
         match self.0 {
-            Answer::Done(changed) => write!(
-                f,
-                "leaves {} changed {}",
-                changed.leaves.0, changed.levels
-            ),
-            Answer::Refused(refusal) => write!(
-                f,
-                "refused {} at {}",
-                refusal.number(),
-                refusal.place()
-            ),
+            Ok(changed) => write!(f, "leaves {} changed {}", changed.leaves.0, changed.levels),
+            Err(refusal) => write!(f, "{refusal}"),
         }
     }
 }

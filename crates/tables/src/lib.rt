@@ -5,6 +5,7 @@ mod answers;
 pub mod changing;
 pub mod failure;
 pub mod lines;
+mod memory;
 pub mod parting;
 mod printing;
 pub mod report;

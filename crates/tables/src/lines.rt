@@ -3,7 +3,7 @@ ghost use Rattle.std.specs.Prelude.{◌≡◌, ◌++◌, Some, IfOk, string_byte
 ghost use Rattle.model.specs.Bytes.{count};
 ghost use Rattle.model.specs.OfModel.{bytes_of};
 ghost use Rattle.amounts.specs.Joined.{joined};
-ghost use Rattle.tables.specs.Lines.{refused_text, summary_text, level_text, exit_text, refusal_line, level_of, exit_of, level_above, exit_above, drain_lines};
+ghost use Rattle.tables.specs.Lines.{summary_text, level_text, exit_text, refusal_line, level_of, exit_of, level_above, exit_above, drain_lines};
 
 use crate::printing::{push_line, push_lines};
 use amounts::answer::Drained;
@@ -14,24 +14,11 @@ use model::units::{Amount, Cell, Height};
 use std::alloc::{AllocError, Global};
 use std::fmt;
 
-// A refusal.
-#[derive(Clone, Copy)]
-struct Refused(Refusal);
-
-impl fmt::Display for Refused {
-    ghost output = { λ r. Some (refused_text r.0) };
-
-    fn fmt<W: fmt::Write>(&self, f: &mut fmt::Formatter<W>) -> fmt::Result {
-        write!(f, "refused {} at {}", self.0.number(), self.0.place())
-    }
-}
-
 // The line of a refusal.
 pub fn refusal_line(heap: Global, refusal: Refusal) -> Result<String, AllocError>
     ensures { IfOk result (λ s. string_bytes s ≡ refusal_line refusal) }
 {
-    let refused = Refused(refusal);
-    format!(in heap; "{refused}\n")
+    format!(in heap; "{refusal}\n")
 }
 
 // How many cells a model has, what rained on it and what leaves it.
@@ -113,11 +100,8 @@ fn exit_above(model: &Model<'_>, flow: &[u32], amounts: &[u64], cell: Cell) -> O
 fn push_levels(out: &mut String, model: &Model<'_>, levels: &[u32]) -> Result<(), AllocError>
     ensures { OnOk result (string_bytes out.new ≡ string_bytes out.old ++ joined (level_of (bytes_of model.now) levels.now) (count (bytes_of model.now))) }
 {
-    let cells = 0..model.cells();
-    push_lines(
-        out,
-        cells.filter_map(|c| level_above(model, levels, Cell(c))),
-    )
+    let levels = (0..model.cells()).filter_map(|c| level_above(model, levels, Cell(c)));
+    push_lines(out, levels)
 }
 
 // The lines of all cells at which more leaves than rains on them.
@@ -129,14 +113,11 @@ fn push_exits(
 ) -> Result<(), AllocError>
     ensures { OnOk result (string_bytes out.new ≡ string_bytes out.old ++ joined (exit_of (bytes_of model.now) flow.now amounts.now) (count (bytes_of model.now))) }
 {
-    let cells = 0..model.cells();
-    push_lines(
-        out,
-        cells.filter_map(|c| exit_above(model, flow, amounts, Cell(c))),
-    )
+    let exits = (0..model.cells()).filter_map(|c| exit_above(model, flow, amounts, Cell(c)));
+    push_lines(out, exits)
 }
 
-// All lines of a drained model.
+// All lines of a drained model. The slices come one by one: Slices lends them to be written, and here they are only read.
 pub fn drain_lines(
     heap: Global,
     model: &Model<'_>,
@@ -147,17 +128,13 @@ pub fn drain_lines(
 ) -> Result<String, AllocError>
     ensures { IfOk result (λ s. string_bytes s ≡ drain_lines (bytes_of model.now) levels.now flow.now amounts.now answer.rain.0 answer.leaves.0) }
 {
-    let Drained { rain, leaves, .. } = answer;
     let mut out = String::new(heap);
-    let cells = model.cells();
-    push_line(
-        &mut out,
-        &Summary {
-            cells,
-            rain,
-            leaves,
-        },
-    )?;
+    let summary = Summary {
+        cells: model.cells(),
+        rain: answer.rain,
+        leaves: answer.leaves,
+    };
+    push_line(&mut out, &summary)?;
     push_levels(&mut out, model, levels)?;
     push_exits(&mut out, model, flow, amounts)?;
     Ok(out)

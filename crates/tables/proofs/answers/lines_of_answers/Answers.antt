@@ -1,14 +1,15 @@
-use Rattle.std.proofs.Common.{refl, rules}
+use Rattle.std.proofs.Common.{Result, refl, rules}
 use Rattle.std.proofs.lemmas.Iterator.{YieldsList-from_slice, YieldsList-from_map}
 use Rattle.std.proofs.lemmas.Iterator.Consumers.{YieldsList-at, YieldsList-from_copied}
 use Rattle.std.proofs.lemmas.List.Folds.{flat_map-map}
-use Rattle.changes.specs.declared.answer.Answer.{Answer}
+use Rattle.model.specs.declared.refusal.Refusal.{Refusal}
+use Rattle.changes.specs.declared.answer.Changed.{Changed}
 use Rattle.tables.specs.declared.answers.AnswerLine.{AnswerLine}
 use Rattle.tables.specs.Changing.{answer_text}
 use Rattle.tables.proofs.Printed.{all_lines}
 use Rattle.tables.proofs.answers.lines_of_answers.Goals as goal
 
-abbrev line_of : Answer → AnswerLine
+abbrev line_of : Result Changed Refusal → AnswerLine
 line_of a = record { 0 = a }
 
 pub returns : goal.returns

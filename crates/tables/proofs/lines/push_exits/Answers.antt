@@ -12,4 +12,4 @@ returns c =
     let flow = c.args.flow.now in
     let amounts = c.args.amounts.now in
     let text = λ (e : Exit). exit_text e.cell.0 e.amount.0 in
-    on_ok_weaker c.push_lines.result (λ p. cells_printed _ _ text (exit_above bs flow amounts) (exit_of bs flow amounts) (count bs) p (λ x. refl) (cc) c.filter_map.ensures.closure (λ x r q k. search (rules, tests)) (λ x a. line_tested text _ _ _ (lt-ltb x (count bs) a))) c.push_lines.ensures
+    on_ok_weaker c.push_lines.result (λ p. cells_printed _ _ text (exit_above bs flow amounts) (exit_of bs flow amounts) (count bs) p (λ x. refl) (cc) c.filter_map-exits.ensures.closure (λ x r q k. search (rules, tests)) (λ x a. line_tested text _ _ _ (lt-ltb x (count bs) a))) c.push_lines.ensures
