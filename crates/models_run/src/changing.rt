@@ -48,7 +48,7 @@ fn some_wish(dice: &mut Dice, cells: u32) -> Wish {
 }
 
 impl Wish {
-    // The change as the library is asked for it. Only 0 and 1 are drain marks.
+    // The change as the library is asked for it. Only 0 and 1 are drain marks. TryFrom is no plainer: a row asks for an Option.
     fn change(self) -> Option<Change> {
         let cell = Cell(self.cell);
         match self.field {

@@ -16,16 +16,17 @@ pub struct Row {
     pub amount: u64,
 }
 
-// The cell that a code stands for, if it is not off the land.
+// The cell that a code stands for, if it is not off the land. From is no plainer: both types are std's, so one more type would be needed.
 pub fn cell_of(code: u32) -> Option<usize> {
     (code != OFF).then_some(code as usize)
 }
 
+// The code of a cell, or of off the land.
 fn code_of(sends: Option<usize>) -> u32 {
     sends.and_then(|to| u32::try_from(to).ok()).unwrap_or(OFF)
 }
 
-// The row in some bytes, if they hold it whole.
+// The row in some bytes, if they hold it whole. TryFrom is no plainer: its error would have nothing to say.
 fn read_row(bytes: &[u8]) -> Option<Row> {
     let (level, rest) = bytes.split_first_chunk()?;
     let (sends, rest) = rest.split_first_chunk()?;

@@ -58,7 +58,7 @@ fn open_beside(ground: &Ground, known: &mut [Known], cell: usize, level: u32) {
     }
 }
 
-// Places the cells one by one.
+// Places the cells one by one; the number counted is the place.
 fn place_all(ground: &Ground, known: &mut [Known]) {
     for place in 0..known.len() {
         let Some((level, cell)) = lowest_open(known) else {
