@@ -13,6 +13,7 @@ use amounts::draining::drain_model;
 use model::land::Model;
 use model::slices::{Slices, long_enough};
 
+// The slices for exits and cells are lent one by one: exits alone are found without cells, and the four are those of draining.
 // Drains a model and finds its basins: the exit of each cell, and the number of cells of each basin at its exit. A slice that is
 // too short is refused, and nothing is written then.
 pub fn drain_basins(

@@ -3,6 +3,7 @@ use crate::draining::drain_basins;
 use crate::parting::{Basin, basin_at, find_basins};
 use crate::short::Short;
 use crate::tracing::exit_of;
+use flood::sends::NONE as OFF;
 use model::reading::read;
 use model::slices::Slices;
 use model::units::{Amount, Cell};
@@ -37,9 +38,6 @@ const RIDGE: &[u8; 139] = b"\x05\0\x03\0\
     \x0c\0\0\0\x0d\0\0\0\x00\
     \x0c\0\0\0\x0e\0\0\0\x00\
     \x0c\0\0\0\x0f\0\0\0\x00";
-
-// The code of off.
-const OFF: u32 = 4_294_967_295;
 
 // Drains the model in the bytes, of at most 15 cells, and finds its basins.
 fn find(

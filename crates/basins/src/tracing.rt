@@ -46,6 +46,7 @@ fn tell_exits(flow: &[u32], order: &[u64], exits: &mut [u32])
 {
     for cell in order {
         let cell = *cell as usize;
+        // By index, since `exit_by` reads the slice that is written.
         if cell < exits.len() {
             exits[cell] = exit_by(flow, exits, cell as u32);
         }

@@ -37,7 +37,8 @@ impl<'a> Table<'a> {
         })
     }
 
-    // The row of a cell.
+    // The row of a cell. That the model has the cell is asked of each caller: a type for its cells would have to hold the model, and be no
+    // plainer.
     pub(crate) fn row(&self, cell: Cell) -> Row
         requires { cell.0 < count (bytes_of self.now.model) }
         ensures level { result.level.0 ≡ level_at self.now.bytes.now cell.0 }

@@ -19,7 +19,8 @@ use model::units::Cell;
 use queue::{Entry, Queue};
 
 // How far a flood has come: what is known of each cell, how many cells have places, and the looks made so far.
-// Lists side by side and a count beside them, since the caller lends the memory as slices of plain numbers.
+// Lists side by side and a count beside them, since the caller lends the memory as slices of plain numbers. The queue goes beside a run and
+// not into it: of a struct that holds a &mut in another no proof is made. Each step says that the slices stay the same, which no invariant can.
 #[derive(Drop)]
 struct Run<'a> {
     levels: &'a mut [u32],
@@ -86,10 +87,7 @@ impl<'a> Run<'a> {
         ensures same { SameSlices self.old self.new queue.old queue.new }
         ensures table { Holds (table (ground model.now)) self.new queue.new }
     {
-        'cells: loop {
-            let Some(taken) = self.take(queue) else {
-                break 'cells;
-            };
+        'cells: while let Some(taken) = self.take(queue) {
             'sides: for side in model.grid().neighbours(taken.cell) {
                 let Some(next) = side else {
                     continue 'sides;
@@ -125,9 +123,9 @@ fn flood_all(model: &Model<'_>, levels: &mut [u32], flow: &mut [u32], work: &mut
 {
     let n = levels.len();
     clear(levels, flow, work);
-    let (heap, noted) = work.split_at_mut(n);
-    let (order, places) = noted.split_at_mut(n);
-    let mut queue = Queue::new(heap, 0);
+    let (words, rest) = work.split_at_mut(n);
+    let (order, places) = rest.split_at_mut(n);
+    let mut queue = Queue::new(words, 0);
     let mut run = Run {
         levels,
         flow,
@@ -141,7 +139,8 @@ fn flood_all(model: &Model<'_>, levels: &mut [u32], flow: &mut [u32], work: &mut
     run.looks
 }
 
-// Levels, flow, order and places of a model, and the number of looks in the queue. Slices may be longer than needed; where one is
+// Levels, flow, order and places of a model, and the number of looks in the queue. Three of the four lent slices, one by one: a flood
+// needs no amounts and asks for none. Slices may be longer than needed; where one is
 // too short, it is refused and nothing is written.
 pub fn flood(
     model: &Model<'_>,

@@ -1,6 +1,6 @@
 // The bytes of a model file: whole numbers, low byte first, and the part that each cell has.
 ghost use Rattle.std.specs.Prelude.{◌≡◌};
-ghost use Rattle.model.specs.Bytes.{start, cell_part, height_in, rain_in, mark_in};
+ghost use Rattle.model.specs.Bytes.{start, cell_part, if_whole, four, height_in, rain_in, mark_in};
 
 use crate::limits::{CELL_BYTES, HEAD_BYTES};
 use crate::units::Cell;
@@ -26,20 +26,26 @@ pub(crate) fn part_of(bytes: &[u8], cell: Cell) -> &[u8]
     &bytes[from..to]
 }
 
+// The number in the first four bytes, if they are all there.
+fn read_four(part: &[u8]) -> Option<u32>
+    ensures { result ≡ if_whole part.now 4 (four part.now) }
+{
+    let bytes = part.first_chunk()?;
+    Some(u32::from_le_bytes(*bytes))
+}
+
 // The height in a cell's bytes, if they hold it whole.
 pub(crate) fn height_in(part: &[u8]) -> Option<u32>
     ensures { result ≡ height_in part.now }
 {
-    let bytes = part.first_chunk()?;
-    Some(u32::from_le_bytes(*bytes))
+    read_four(part)
 }
 
 // The rain in a cell's bytes, if they hold it whole.
 pub(crate) fn rain_in(part: &[u8]) -> Option<u32>
     ensures { result ≡ rain_in part.now }
 {
-    let bytes = part.get(RAIN_AT..)?.first_chunk()?;
-    Some(u32::from_le_bytes(*bytes))
+    read_four(part.get(RAIN_AT..)?)
 }
 
 // The drain mark in a cell's bytes, if they hold it.

@@ -1,5 +1,5 @@
 // Writing a cell's height, rain or drain mark into lent bytes.
-// Grid and bytes are passed side by side: a struct of them cannot stand inside that of a row of changes, whose proof is not made then.
+// Grid and bytes go side by side: a row of changes keeps them in a struct, and of a struct that holds a &mut in another no proof is made.
 ghost use Rattle.std.specs.Prelude.{◌≡◌, ◌+◌, ◌≤◌, ◌&&◌, length, if◌then◌else◌, is_ok, nat_le};
 ghost use Rattle.model.specs.Bytes.{start};
 ghost use Rattle.model.specs.Edits.{put_four, fits_cell, with_height, with_rain, with_mark};
@@ -14,7 +14,8 @@ use crate::units::{Amount, Cell, Height};
 #[derive(Clone, Copy, PartialEq, Eq, Debug)]
 pub struct OutOfRange;
 
-// A number into four bytes, low byte first.
+// A number into four bytes, low byte first. Not by copy_from_slice: it was tried, and that it is the four writes of the definition did
+// not follow.
 fn write_four(bytes: &mut [u8], at: usize, value: u32)
     requires { at + 4 ≤ length bytes.old }
     ensures { bytes.new ≡ put_four bytes.old at value }

@@ -13,7 +13,7 @@ pub enum Side {
     Rows = 2,
 }
 
-// A slice that the caller lends, in the order in which they are passed.
+// A slice that the caller lends, in the order of `Slices`.
 #[derive(Clone, Copy, PartialEq, Eq, Debug)]
 pub enum Lent {
     Levels,
@@ -44,6 +44,7 @@ pub enum Refusal {
     Amount(Cell),
 }
 
+// Programs print the number and the place, and C gets them.
 impl Refusal {
     // The number by which a refusal is reported.
     pub fn number(self) -> u32
@@ -67,15 +68,12 @@ impl Refusal {
         ensures { result ≡ place self }
     {
         match self {
-            Refusal::Length(at) => at,
+            Refusal::Length(at) | Refusal::Value(at) => at,
             Refusal::Size(side) => side as usize,
-            Refusal::Value(at) => at,
             Refusal::Short(lent) => lent as usize,
             Refusal::Change(change) => change,
             Refusal::Table(length) => length,
-            Refusal::Level(cell) => cell.index(),
-            Refusal::Sends(cell) => cell.index(),
-            Refusal::Amount(cell) => cell.index(),
+            Refusal::Level(cell) | Refusal::Sends(cell) | Refusal::Amount(cell) => cell.index(),
         }
     }
 }

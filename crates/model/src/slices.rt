@@ -2,7 +2,8 @@
 ghost use Rattle.std.specs.Prelude.{◌≡◌, length, Ok, Err, if◌then◌else◌, nat_le};
 
 // The four slices that draining writes: an entry for each cell in levels, flow and amounts, three in the work.
-// They are slices of plain words side by side, and not one of rows, because C lends them so.
+// They are slices of plain words side by side, and not one of rows, because C lends them so. A function that is lent them also says that
+// they stay the same slices: no invariant of a type can speak of before and after.
 #[derive(Drop)]
 pub struct Slices<'a> {
     pub levels: &'a mut [u32],

@@ -14,37 +14,43 @@ const SQUARE: [u8; 40] = [
     64, 66, 15, 0, 64, 66, 15, 0, 1, //
 ];
 
-// The number and the place of a refusal, or 0 and 0.
-fn answer(bytes: &[u8]) -> (u32, usize) {
+// Whether bytes are taken, or else the number and the place of the refusal, which are what is printed.
+fn answer(bytes: &[u8]) -> Result<(), (u32, usize)> {
     match read(bytes) {
-        Ok(_) => (0, 0),
-        Err(refusal) => (refusal.number(), refusal.place()),
+        Ok(_) => Ok(()),
+        Err(refusal) => Err((refusal.number(), refusal.place())),
     }
 }
 
 #[test]
 fn reads_the_sizes(rt: HostRuntime) {
-    assert_eq!(rt; answer(&[]), (1, 0));
-    assert_eq!(rt; answer(&[0, 0, 0]), (1, 3));
-    assert_eq!(rt; answer(&[0, 0, 145, 1]), (2, 0));
-    assert_eq!(rt; answer(&[145, 1, 1, 0]), (2, 0));
-    assert_eq!(rt; answer(&[144, 1, 0, 0]), (2, 2));
-    assert_eq!(rt; answer(&[1, 0, 145, 1]), (2, 2));
-    assert_eq!(rt; answer(&[144, 1, 144, 1]), (1, 4));
+    assert_eq!(rt; answer(&[]), Err((1, 0)));
+    assert_eq!(rt; answer(&[0, 0, 0]), Err((1, 3)));
+    assert_eq!(rt; answer(&[0, 0, 145, 1]), Err((2, 0)));
+    assert_eq!(rt; answer(&[145, 1, 1, 0]), Err((2, 0)));
+    assert_eq!(rt; answer(&[144, 1, 0, 0]), Err((2, 2)));
+    assert_eq!(rt; answer(&[1, 0, 145, 1]), Err((2, 2)));
+    assert_eq!(rt; answer(&[144, 1, 144, 1]), Err((1, 4)));
 }
 
 #[test]
 fn reads_a_cell_field_after_field(rt: HostRuntime) {
-    assert_eq!(rt; answer(&[1, 0, 1, 0, 5, 0, 0]), (1, 7));
-    assert_eq!(rt; answer(&[1, 0, 1, 0, 65, 66, 15, 0]), (3, 4));
-    assert_eq!(rt; answer(&[1, 0, 1, 0, 64, 66, 15, 0]), (1, 8));
-    assert_eq!(rt; answer(&[1, 0, 1, 0, 5, 0, 0, 0, 65, 66, 15, 0]), (3, 8));
-    assert_eq!(rt; answer(&[1, 0, 1, 0, 5, 0, 0, 0, 1, 0, 0, 0]), (1, 12));
-    assert_eq!(rt; answer(&[1, 0, 1, 0, 5, 0, 0, 0, 1, 0, 0, 0, 2]), (3, 12));
-    assert_eq!(rt; answer(&[1, 0, 1, 0, 5, 0, 0, 0, 1, 0, 0, 0, 0]), (0, 0));
+    assert_eq!(rt; answer(&[1, 0, 1, 0, 5, 0, 0]), Err((1, 7)));
+    assert_eq!(rt; answer(&[1, 0, 1, 0, 65, 66, 15, 0]), Err((3, 4)));
+    assert_eq!(rt; answer(&[1, 0, 1, 0, 64, 66, 15, 0]), Err((1, 8)));
+    assert_eq!(rt;
+        answer(&[1, 0, 1, 0, 5, 0, 0, 0, 65, 66, 15, 0]),
+        Err((3, 8))
+    );
+    assert_eq!(rt; answer(&[1, 0, 1, 0, 5, 0, 0, 0, 1, 0, 0, 0]), Err((1, 12)));
+    assert_eq!(rt;
+        answer(&[1, 0, 1, 0, 5, 0, 0, 0, 1, 0, 0, 0, 2]),
+        Err((3, 12))
+    );
+    assert_eq!(rt; answer(&[1, 0, 1, 0, 5, 0, 0, 0, 1, 0, 0, 0, 0]), Ok(()));
     assert_eq!(rt;
         answer(&[1, 0, 1, 0, 5, 0, 0, 0, 1, 0, 0, 0, 0, 9]),
-        (1, 13)
+        Err((1, 13))
     );
 }
 

@@ -14,7 +14,7 @@ pub struct Height(pub u32);
 pub struct Amount(pub u64);
 
 impl Cell {
-    // The cell's place in a slice that has one entry for each cell.
+    // The cell's place in a slice that has one entry for each cell: the one place where the number's type changes.
     pub fn index(self) -> usize
         ensures { result ≡ self.0 }
     {
@@ -23,7 +23,7 @@ impl Cell {
 }
 
 impl Height {
-    // The higher of two heights.
+    // The higher of two heights. A method beside the library's max, because its contract speaks of the numbers and not of an order.
     pub fn higher(self, other: Height) -> Height
         ensures { result.0 ≡ max self.0 other.0 }
     {

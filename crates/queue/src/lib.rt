@@ -30,7 +30,8 @@ pub struct Popped {
 }
 
 // A heap in a part of a lent slice: the entries stand in the first `len` words.
-// std's `BinaryHeap` would allocate, and counts no looks.
+// std's `BinaryHeap` would allocate, and counts no looks. That `len` fits is no invariant: a queue with any length was answered before, and
+// is. Each call says that the words stay the same slice, which no invariant can.
 #[derive(Drop)]
 pub struct Queue<'a> {
     pub words: &'a mut [u64],

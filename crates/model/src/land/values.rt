@@ -53,7 +53,8 @@ impl<'a> Model<'a> {
         Some(Amount(u64::from(rain)))
     }
 
-    // The height of a cell, 0 where there is no such cell.
+    // The height of a cell, 0 where there is no such cell. It and rain_of are two methods, because heights and amounts are two types that
+    // do not mix.
     pub fn height_of(&self, cell: Cell) -> Height
         ensures { result.0 ≡ (if nat_lt cell.0 (count (bytes_of self.now)) then height_at (bytes_of self.now) cell.0 else 0) }
     {

@@ -1,6 +1,6 @@
 use Rattle.std.proofs.Common.{rules}
 use Rattle.model.specs.Bytes.{four}
-use Rattle.model.proofs.bytes.rain_in.Goals as goal
+use Rattle.model.proofs.bytes.read_four.Goals as goal
 
 pub returns : goal.returns
 unfolding four

@@ -1,7 +1,0 @@
-use Rattle.std.proofs.Common.{rules}
-use Rattle.model.specs.Bytes.{four}
-use Rattle.model.proofs.bytes.height_in.Goals as goal
-
-pub returns : goal.returns
-unfolding four
-returns c = search rules
