@@ -24,13 +24,10 @@ sends_on code next e = let i = cases_Bool (eqb code none) in grind (arith, nat_t
 pub sends_off : (code : ℕ) → Off ≡ sends_of code → eqb code none ≡ true
 sends_off code e = let i = cases_Bool (eqb code none) in grind (arith, nat_tests)
 
--- the rest of a walk after k cells: one cell more, and none where it has come to its end
+-- the rest of a walk after k cells
 pub walk_more : (flow : List ℕ) (n k at : ℕ) → k < n →
     walked flow n (n - k) at ≡ cond (ltb at n) (cond (eqb (get_or flow at 0) none) (Some at) (walked flow n (n - (k + 1)) (get_or flow at 0))) None
 walk_more flow n k at a = let left : n - k ≡ suc (n - (k + 1)) = omega arith in ap (λ j. walked flow n j at) left
-
-pub walk_over : (flow : List ℕ) (n k at : ℕ) → n ≤ k → walked flow n (n - k) at ≡ None
-walk_over flow n k at a = let left : n - k ≡ 0 = omega arith in ap (λ j. walked flow n j at) left
 
 module _ (bs : List ℕ) (wf : WellFormed bs) (flow work exits : List ℕ) (fits : count bs ≤ length exits) where
   abbrev told : List ℕ

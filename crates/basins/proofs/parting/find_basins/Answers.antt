@@ -3,16 +3,8 @@ use Rattle.std.proofs.lemmas.Bool.Decides.{nat_tests}
 use Rattle.std.proofs.lemmas.Grind.{common_steps}
 use Rattle.model.specs.Bytes.{count}
 use Rattle.model.proofs.Taken.{formed}
-use Rattle.flood.proofs.Turns.{small}
 use Rattle.basins.proofs.Drained.{basins_found}
 use Rattle.basins.proofs.parting.find_basins.Goals as goal
-
-pub count_cells-requires : goal.count_cells-requires
-count_cells-requires c =
-    let bs = c.args.model.now.bytes.now in
-    let fits : count bs ≤ length c.args.exits.now = grind (arith, nat_tests, c.in_ok-find_exits.ensures.refused) in
-    let few = small bs (formed bs c.args.model.now.taken) in
-    record { long = grind (arith, common_steps); few = grind (arith, common_steps) }
 
 pub returns-clause-after : goal.returns-clause-after
 returns-clause-after c =

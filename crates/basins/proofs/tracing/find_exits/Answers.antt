@@ -1,16 +1,10 @@
-use Rattle.std.proofs.Common.{◌≡◌, ◌≤◌, ◌-◌, ◌*◌, length, take, drop, arith, length-take}
+use Rattle.std.proofs.Common.{◌≡◌, ◌≤◌, ◌-◌, ◌*◌, length, take, drop, arith}
 use Rattle.std.proofs.lemmas.Bool.Decides.{nat_tests}
 use Rattle.std.proofs.lemmas.Grind.{common_steps}
 use Rattle.model.specs.Bytes.{count}
 use Rattle.model.proofs.Taken.{formed}
-use Rattle.flood.proofs.Turns.{small}
 use Rattle.basins.proofs.Steps.{traced}
 use Rattle.basins.proofs.tracing.find_exits.Goals as goal
-
-pub tell_exits-requires : goal.tell_exits-requires
-tell_exits-requires c =
-    let bs = c.args.model.now.bytes.now in
-    omega (arith, c.cells-n.ensures, small bs (formed bs c.args.model.now.taken), length-take (c.cells-n.result - 0) c.args.exits.now)
 
 pub returns-clause-after : goal.returns-clause-after
 returns-clause-after c =
