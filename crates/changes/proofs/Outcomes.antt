@@ -1,11 +1,12 @@
 -- What comes of a change that is refused, and of one that is made.
-use Rattle.std.proofs.Common.{◌≡◌, ℕ, ◌*◌, true, false, cond, List, Some, Ok, Err, Result, sym, ap, ◌∙◌, subst, ap₂}
+use Rattle.std.proofs.Common.{◌≡◌, ℕ, ◌*◌, true, false, cond, List, Some, Ok, Err, Result, sym, refl, ap, ◌∙◌, subst, ap₂}
 use Rattle.model.specs.declared.edits.OutOfRange.{OutOfRange}
 use Rattle.model.specs.declared.grid.Grid.{Grid}
 use Rattle.model.specs.Bytes.{count}
 use Rattle.model.specs.Faults.{fault}
 use Rattle.model.specs.Of.{Sized}
-use Rattle.model.specs.Slices.{Contents}
+use Rattle.model.specs.declared.slices.Slices.{Slices}
+use Rattle.model.specs.Slices.{contents}
 use Rattle.model.specs.WellFormed.{WellFormed}
 use Rattle.model.proofs.Taken.{well_formed, taken}
 use Rattle.amounts.specs.Draining.{room_fault}
@@ -37,7 +38,7 @@ made_outcome bs x d may l k =
 pub cells_count : (g : Grid) (bs : List ℕ) → Sized g bs → g.w * g.h ≡ count bs
 cells_count g bs s = ap₂ ◌*◌ s.w s.h
 
-module _ (m n : Current) (s : Contents) (d : Drained m s s) (x : Change) (grid : n.grid ≡ m.grid) (bytes : n.bytes.now ≡ changed_by m.bytes.now (Some x)) where
+module _ (m n : Current) (s : Slices) (d : Drained m (contents s) (contents s)) (x : Change) (grid : n.grid ≡ m.grid) (name : n.bytes.ghost_name ≡ m.bytes.ghost_name) (bytes : n.bytes.now ≡ changed_by m.bytes.now (Some x)) where
   wf : WellFormed m.bytes.now
   wf = well_formed m.bytes.now d.taken
 
@@ -53,24 +54,26 @@ module _ (m n : Current) (s : Contents) (d : Drained m s s) (x : Change) (grid :
         drained = record {
           sized = subst (λ g. Sized g n.bytes.now) (sym grid) (subst (Sized m.grid) (sym stays) d.sized);
           taken = ap fault stays ∙ d.taken;
-          tabled = subst (λ b. Tabled b s s) (sym stays) d.tabled;
+          tabled = subst (λ b. Tabled b (contents s) (contents s)) (sym stays) d.tabled;
           leaves = same ∙ (d.leaves ∙ ap leaves_in (sym stays));
         };
+        lent = record { bytes = name; slices = record { levels = refl; flow = refl; amounts = refl; work = refl } };
       }
 
   -- where it is made, the model can be drained again
-  pub changed_drainable : Drainable n s
+  pub changed_drainable : Drainable n (contents s)
   changed_drainable = record {
     sized = subst (λ g. Sized g n.bytes.now) (sym grid) (kept_sized m.grid m.bytes.now n.bytes.now kept d.sized);
     taken = taken n.bytes.now kept.sound;
-    room = ap (λ k. room_fault k s) (kept_count m.bytes.now n.bytes.now kept) ∙ tabled_room m.bytes.now wf s s d.tabled;
+    room = ap (λ k. room_fault k (contents s)) (kept_count m.bytes.now n.bytes.now kept) ∙ tabled_room m.bytes.now wf (contents s) (contents s) d.tabled;
   }
 
   -- and what comes of that
-  pub redrained_outcome : (l : Current) (t : Contents) (c : Changed) → allowed m.bytes.now x ≡ true → Redrained n l s t c → Ok c ≡ outcome m.bytes.now x
-  redrained_outcome l t c may r =
-      let levels = changed_levels m.bytes.now n.bytes.now _ _ _ _ wf kept.sound (kept_count m.bytes.now n.bytes.now kept) d.tabled.written.levels (subst (λ b. Tabled b s t) r.bytes r.drained.tabled).written.levels in
-      made_outcome m.bytes.now x c may (ap (λ a. a.0) r.leaves ∙ (r.drained.leaves ∙ ap leaves_in (r.bytes ∙ bytes))) (r.levels ∙ (levels ∙ ap (levels_between m.bytes.now) bytes))
+  module _ (l : Current) (t : Slices) (c : Changed) (r : Redrained n l s t c) where
+    pub redrained_outcome : allowed m.bytes.now x ≡ true → Ok c ≡ outcome m.bytes.now x
+    redrained_outcome may =
+        let levels = changed_levels m.bytes.now n.bytes.now _ _ _ _ wf kept.sound (kept_count m.bytes.now n.bytes.now kept) d.tabled.written.levels (subst (λ b. Tabled b (contents s) (contents t)) r.bytes r.drained.tabled).written.levels in
+        made_outcome m.bytes.now x c may (ap (λ a. a.0) r.leaves ∙ (r.drained.leaves ∙ ap leaves_in (r.bytes ∙ bytes))) (r.levels ∙ (levels ∙ ap (levels_between m.bytes.now) bytes))
 
-  pub redrained_changes : (l : Current) (t : Contents) (c : Changed) → Redrained n l s t c → Changes m (Some x) l s t
-  redrained_changes l t c r = record { bytes = r.bytes ∙ bytes; drained = r.drained }
+    pub redrained_changes : Changes m (Some x) l s t
+    redrained_changes = record { bytes = r.bytes ∙ bytes; drained = r.drained; lent = record { bytes = r.lent.bytes ∙ name; slices = r.lent.slices } }

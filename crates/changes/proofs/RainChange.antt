@@ -1,5 +1,5 @@
 -- What is known where the rain of one cell was changed in the bytes, and the slices still hold the table before.
-use Rattle.std.proofs.Common.{◌≡◌, ℕ, ◌+◌, ◌-◌, ◌<◌, ◌≤◌, true, cond, eqb, List, ◌++◌, length, get_or, drop, Some, None, Ok, nat_lt, sym, ap, ◌∙◌, subst, ap₂, inl, inr, arith}
+use Rattle.std.proofs.Common.{◌≡◌, ℕ, ◌+◌, ◌-◌, ◌<◌, ◌≤◌, true, cond, eqb, List, ◌++◌, length, get_or, drop, Some, None, Ok, nat_lt, sym, refl, ap, ◌∙◌, subst, ap₂, inl, inr, arith}
 use Rattle.std.proofs.lemmas.List.{get_or_append_left}
 use Rattle.std.proofs.lemmas.Bool.{cases_Bool}
 use Rattle.std.proofs.lemmas.Bool.Decides.{nat_tests}
@@ -10,7 +10,8 @@ use Rattle.model.specs.Edits.{put_four}
 use Rattle.model.specs.Faults.{fault}
 use Rattle.model.specs.Land.{Land}
 use Rattle.model.specs.Of.{Sized}
-use Rattle.model.specs.Slices.{Contents}
+use Rattle.model.specs.declared.slices.Slices.{Slices}
+use Rattle.model.specs.Slices.{Contents, contents}
 use Rattle.model.specs.Terrain.{land}
 use Rattle.model.specs.WellFormed.{WellFormed}
 use Rattle.model.proofs.Taken.{well_formed, taken}
@@ -31,7 +32,7 @@ use Rattle.changes.specs.declared.answer.Changed.{Changed}
 use Rattle.changes.specs.declared.applying.Current.{Current}
 use Rattle.changes.specs.declared.asked.Change.TheVariants.{Rain}
 use Rattle.changes.specs.Applied.{allowed, changed_by, leaves_in, levels_between, outcome, Tabled}
-use Rattle.changes.specs.Current.{Drained, Changes}
+use Rattle.changes.specs.Current.{Drained, SameLent, Changes}
 use Rattle.changes.specs.Moved.{OffAt}
 use Rattle.changes.proofs.Edits.{kept_count, kept_sized, edited_kept, rain_rewritten, rain_keeps_table}
 use Rattle.changes.proofs.Holding.{enough, none_changed}
@@ -94,21 +95,21 @@ rain_stays bs c v wf = elim (cases_Bool (allowed bs (Rain c v))) [
 ]
 
 -- the rain of a cell was written into the bytes of a drained model: what moving the amounts asks for, and what it leaves
-pub record Rained (m : Current) (s : Contents) (c : Cell) (v old : Amount) (cs : List ℕ) : Type 0 where
+pub record Rained (m : Current) (s : Slices) (c : Cell) (v old : Amount) (cs : List ℕ) : Type 0 where
   pub sized : Sized m.grid cs
   pub taken : fault cs ≡ None
   pub cell : c.0 < count cs
-  pub flow : s.flow ≡ (table_of cs).flow ++ drop (count cs) s.flow
-  pub long : count cs ≤ length s.amounts
+  pub flow : s.flow.now ≡ (table_of cs).flow ++ drop (count cs) s.flow.now
+  pub long : count cs ≤ length s.amounts.now
   pub rain : (old.0 ≤ 1000000) × (v.0 ≤ 1000000)
-  pub low : (d : ℕ) → d < count cs → get_or s.amounts d 0 ≤ 160000000000
-  pub off : OffAt (land cs) (flow_in cs) (λ d. get_or s.amounts d 0) c.0 old.0 v.0
+  pub low : (d : ℕ) → d < count cs → get_or s.amounts.now d 0 ≤ 160000000000
+  pub off : OffAt (land cs) (flow_in cs) (λ d. get_or s.amounts.now d 0) c.0 old.0 v.0
   pub sum : m.leaves.0 + v.0 ≤ 160001000000
   pub rest : old.0 ≤ m.leaves.0 + v.0
   pub outcome : (r : Changed) → r.leaves.0 ≡ m.leaves.0 + v.0 - old.0 → r.levels ≡ 0 → Ok r ≡ outcome m.bytes.now (Rain c v)
-  pub after : (k : Current) (am : List ℕ) → k.grid ≡ m.grid → k.bytes.now ≡ cs → k.leaves.0 ≡ m.leaves.0 + v.0 - old.0 → am ≡ table_amounts cs ++ drop (count cs) s.amounts → Changes m (Some (Rain c v)) k s (record s { amounts = am })
+  pub after : (k : Current) (t : Slices) → k.grid ≡ m.grid → k.bytes.now ≡ cs → k.leaves.0 ≡ m.leaves.0 + v.0 - old.0 → contents t ≡ record (contents s) { amounts = table_amounts cs ++ drop (count cs) s.amounts.now } → SameLent m k s t → Changes m (Some (Rain c v)) k s t
 
-pub rained : (m : Current) (s : Contents) (c : Cell) (v old : Amount) (was cs : List ℕ) → Drained m s s → true ≡ allowed m.bytes.now (Rain c v) → cs ≡ changed_by m.bytes.now (Some (Rain c v)) →
+pub rained : (m : Current) (s : Slices) (c : Cell) (v old : Amount) (was cs : List ℕ) → Drained m (contents s) (contents s) → true ≡ allowed m.bytes.now (Rain c v) → cs ≡ changed_by m.bytes.now (Some (Rain c v)) →
     was ≡ m.bytes.now → old.0 ≡ cond (nat_lt c.0 (count was)) (rain_at was c.0) 0 → Rained m s c v old cs
 rained m s c v old was cs d done e same rain =
     let bs = m.bytes.now in
@@ -121,8 +122,8 @@ rained m s c v old was cs d done e same rain =
     let formed = formed_again bs cs c.0 v.0 wf in_it low put in
     let table = same_table bs cs c.0 v.0 wf in_it low put in
     let is : rain_at bs c.0 ≡ old.0 = let at = subst (λ b. old.0 ≡ cond (nat_lt c.0 (count b)) (rain_at b c.0) 0) same rain in grind (arith, nat_tests) in
-    let held : (k : ℕ) → k < count bs → get_or s.amounts k 0 ≡ amount_in bs k = λ k a. ap (λ xs. get_or xs k 0) d.tabled.poured ∙ get_or_append_left (table_amounts bs) _ 0 k (omega (arith, a, long_amounts bs wf)) in
-    let g : ℕ → ℕ = λ k. get_or s.amounts k 0 in
+    let held : (k : ℕ) → k < count bs → get_or s.amounts.now k 0 ≡ amount_in bs k = λ k a. ap (λ xs. get_or xs k 0) d.tabled.poured ∙ get_or_append_left (table_amounts bs) _ 0 k (omega (arith, a, long_amounts bs wf)) in
+    let g : ℕ → ℕ = λ k. get_or s.amounts.now k 0 in
     let add_up : Carried (land bs) (flow_in bs) g = record {
       each = λ k a. held k a ∙ ((carried bs wf).each k a ∙ ap (λ x. rain_at bs k + x) (sum_same (sends (flow_in bs) (amount_in bs) k) (sends (flow_in bs) g k) (count bs) (λ j b. ap (λ x. cond ((flow_in bs).off j) 0 (cond (eqb ((flow_in bs).to j) k) x 0)) (sym (held j b)))));
     } in
@@ -133,24 +134,25 @@ rained m s c v old was cs d done e same rain =
       sized = subst (Sized m.grid) (sym put) (kept_sized m.grid bs _ (edited_kept bs (Rain c v) wf may) d.sized);
       taken = taken cs formed;
       cell = omega (arith, in_it, size);
-      flow = d.tabled.written.flow ∙ ap₂ (λ t n. t.flow ++ drop n s.flow) (sym table) (sym size);
-      long = omega (arith, enough s.amounts _ _ (count bs) (long_amounts bs wf) d.tabled.poured, size);
+      flow = d.tabled.written.flow ∙ ap₂ (λ t n. t.flow ++ drop n s.flow.now) (sym table) (sym size);
+      long = omega (arith, enough s.amounts.now _ _ (count bs) (long_amounts bs wf) d.tabled.poured, size);
       rain = (omega (arith, is, wf.rains c.0 in_it), low);
       low = λ k a. omega (arith, held k (omega (arith, a, size)), amounts_low bs wf k);
       off = subst (λ t. OffAt (land cs) (flow_of t) g c.0 old.0 v.0) (sym table) off;
       sum = omega (arith, d.leaves, leaves_low bs wf, low);
       rest = omega (arith, d.leaves, is, old_leaves bs cs c.0 v.0 wf in_it low put);
       outcome = λ r l k. made_outcome bs (Rain c v) r may (l ∙ (leaves ∙ ap leaves_in e)) (k ∙ (levels ∙ ap (levels_between bs) e));
-      after = λ k am grid bytes left poured. record {
+      after = λ k t grid bytes left holds lent. record {
         bytes = bytes ∙ e;
         drained = record {
           sized = subst (λ g. Sized g k.bytes.now) (sym grid) (subst (Sized m.grid) (sym (bytes ∙ put)) (kept_sized m.grid bs _ (edited_kept bs (Rain c v) wf may) d.sized));
           taken = ap fault bytes ∙ taken cs formed;
-          tabled = subst (λ b. Tabled b s (record s { amounts = am })) (sym bytes) (record {
-            written = subst (λ t. Written t (count cs) s.levels s.flow s.work s.levels s.flow s.work) (sym table) (subst (λ q. Written (table_of bs) q s.levels s.flow s.work s.levels s.flow s.work) (sym size) d.tabled.written);
-            poured = poured;
-          });
+          tabled = subst (λ b. Tabled b (contents s) (contents t)) (sym bytes) (subst (Tabled cs (contents s)) (sym holds) (record {
+            written = subst (λ r. Written r (count cs) s.levels.now s.flow.now s.work.now s.levels.now s.flow.now s.work.now) (sym table) (subst (λ q. Written (table_of bs) q s.levels.now s.flow.now s.work.now s.levels.now s.flow.now s.work.now) (sym size) d.tabled.written);
+            poured = refl;
+          }));
           leaves = left ∙ (leaves ∙ ap leaves_in (sym bytes));
         };
+        lent = lent;
       };
     }

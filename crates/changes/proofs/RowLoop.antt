@@ -6,7 +6,8 @@ use Rattle.model.specs.declared.refusal.Refusal.{Refusal}
 use Rattle.model.specs.Bytes.{count}
 use Rattle.model.specs.Faults.{or_else, fault}
 use Rattle.model.specs.Of.{Sized}
-use Rattle.model.specs.Slices.{Contents}
+use Rattle.model.specs.declared.slices.Slices.{Slices}
+use Rattle.model.specs.Slices.{Contents, contents, SameSlices}
 use Rattle.model.specs.WellFormed.{WellFormed}
 use Rattle.model.proofs.Taken.{well_formed, taken}
 use Rattle.amounts.specs.declared.answer.Drained.{Drained as FirstDrained}
@@ -17,7 +18,7 @@ use Rattle.changes.specs.declared.applying.Current.{Current}
 use Rattle.changes.specs.declared.asked.Asked.{Asked}
 use Rattle.changes.specs.declared.asked.Change.{Change}
 use Rattle.changes.specs.Applied.{changed_by, leaves_in, answer_to, asked_for, bytes_after, answer_at, Tabled}
-use Rattle.changes.specs.Current.{Drained, Changes}
+use Rattle.changes.specs.Current.{Drained, SameLent, Changes}
 use Rattle.changes.specs.Row.{Applied}
 use Rattle.changes.proofs.Edits.{Kept, kept_count, changed_kept}
 use Rattle.changes.proofs.Holding.{first_tabled, tabled_on, tabled_now, tabled_promise}
@@ -36,18 +37,19 @@ pub drained_now : (m : Current) (old new : Contents) → Drained m old new → D
 drained_now m old new d = record { sized = d.sized; taken = d.taken; tabled = tabled_now m.bytes.now (well_formed m.bytes.now d.taken) old new d.tabled; leaves = d.leaves }
 
 -- after the first k of a row: the model, the slices and the answers so far
-pub record Answered (m : Current) (s : Contents) (row : List Asked) (k : ℕ) (n : Current) (t : Contents) (answers : List (Result Changed Refusal)) : Type 0 where
-  pub drained : Drained n s t
+pub record Answered (m : Current) (s : Slices) (row : List Asked) (k : ℕ) (n : Current) (t : Slices) (answers : List (Result Changed Refusal)) : Type 0 where
+  pub drained : Drained n (contents s) (contents t)
+  pub lent : SameLent m n s t
   pub bytes : n.bytes.now ≡ bytes_after m.bytes.now row k
   pub told : answers ≡ map (answer_at m.bytes.now row) (range_with_len 0 k)
 
-pub none_answered : (m : Current) (s : Contents) (row : List Asked) → Drained m s s → Answered m s row 0 m s []
+pub none_answered : (m : Current) (s : Slices) (row : List Asked) → Drained m (contents s) (contents s) → Answered m s row 0 m s []
 unfolding bytes_after
-none_answered m s row d = record { drained = d; bytes = refl; told = refl }
+none_answered m s row d = record { drained = d; lent = record { bytes = refl; slices = record { levels = refl; flow = refl; amounts = refl; work = refl } }; bytes = refl; told = refl }
 
 -- one more
-pub one_answered : (m : Current) (s : Contents) (row : List Asked) (k : ℕ) (n : Current) (t : Contents) (answers : List (Result Changed Refusal)) → Answered m s row k n t answers →
-    (o : Option Change) (r : Result Changed Refusal) (l : Current) (u : Contents) → o ≡ asked_for row k → r ≡ answer_to k n.bytes.now o → Changes n o l t u → Answered m s row (k + 1) l u (answers ++ (r ∷ []))
+pub one_answered : (m : Current) (s : Slices) (row : List Asked) (k : ℕ) (n : Current) (t : Slices) (answers : List (Result Changed Refusal)) → Answered m s row k n t answers →
+    (o : Option Change) (r : Result Changed Refusal) (l : Current) (u : Slices) → o ≡ asked_for row k → r ≡ answer_to k n.bytes.now o → Changes n o l t u → Answered m s row (k + 1) l u (answers ++ (r ∷ []))
 unfolding bytes_after
 one_answered m s row k n t answers a o r l u asked e c =
     let wf = well_formed n.bytes.now a.drained.taken in
@@ -58,8 +60,17 @@ one_answered m s row k n t answers a o r l u asked e c =
       drained = record {
         sized = c.drained.sized;
         taken = c.drained.taken;
-        tabled = tabled_on n.bytes.now wf s t a.drained.tabled l.bytes.now u (kept_count n.bytes.now l.bytes.now kept) c.drained.tabled;
+        tabled = tabled_on n.bytes.now wf (contents s) (contents t) a.drained.tabled l.bytes.now (contents u) (kept_count n.bytes.now l.bytes.now kept) c.drained.tabled;
         leaves = c.drained.leaves;
+      };
+      lent = record {
+        bytes = c.lent.bytes ∙ a.lent.bytes;
+        slices = record {
+          levels = c.lent.slices.levels ∙ a.lent.slices.levels;
+          flow = c.lent.slices.flow ∙ a.lent.slices.flow;
+          amounts = c.lent.slices.amounts ∙ a.lent.slices.amounts;
+          work = c.lent.slices.work ∙ a.lent.slices.work;
+        };
       };
       bytes = after ∙ ap (bytes_after m.bytes.now row) (sym (add-one k));
       told = ap₂ (λ xs x. xs ++ (x ∷ [])) a.told answered ∙ sym (map-range_with_len_more (answer_at m.bytes.now row) 0 k k (omega arith));

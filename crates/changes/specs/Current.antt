@@ -3,7 +3,8 @@ use Rattle.std.specs.Prelude.{◌≡◌, None, Option}
 use Rattle.model.specs.Bytes.{count}
 use Rattle.model.specs.Faults.{fault}
 use Rattle.model.specs.Of.{Sized}
-use Rattle.model.specs.Slices.{Contents}
+use Rattle.model.specs.declared.slices.Slices.{Slices}
+use Rattle.model.specs.Slices.{Contents, contents, SameSlices}
 use Rattle.amounts.specs.Again.{levels_changed}
 use Rattle.amounts.specs.Draining.{room_fault}
 use Rattle.changes.specs.declared.answer.Changed.{Changed}
@@ -18,10 +19,16 @@ pub record Drained (m : Current) (old new : Contents) : Type 0 where
   pub tabled : Tabled m.bytes.now old new
   pub leaves : m.leaves.0 ≡ leaves_in m.bytes.now
 
+-- the same bytes and slices are lent, whatever stands in them
+pub record SameLent (m n : Current) (s t : Slices) : Type 0 where
+  pub bytes : n.bytes.ghost_name ≡ m.bytes.ghost_name
+  pub slices : SameSlices s t
+
 -- a change was done, or refused, and the model is drained
-pub record Changes (m : Current) (o : Option Change) (n : Current) (old new : Contents) : Type 0 where
+pub record Changes (m : Current) (o : Option Change) (n : Current) (s t : Slices) : Type 0 where
   pub bytes : n.bytes.now ≡ changed_by m.bytes.now o
-  pub drained : Drained n old new
+  pub drained : Drained n (contents s) (contents t)
+  pub lent : SameLent m n s t
 
 -- the bytes are a model of the grid's size, for which the slices have room
 pub record Drainable (m : Current) (s : Contents) : Type 0 where
@@ -30,8 +37,9 @@ pub record Drainable (m : Current) (s : Contents) : Type 0 where
   pub room : room_fault (count m.bytes.now) s ≡ None
 
 -- it was drained, which changed so many levels in the slices
-pub record Redrained (m n : Current) (old new : Contents) (d : Changed) : Type 0 where
+pub record Redrained (m n : Current) (s t : Slices) (d : Changed) : Type 0 where
   pub bytes : n.bytes.now ≡ m.bytes.now
-  pub drained : Drained n old new
+  pub drained : Drained n (contents s) (contents t)
   pub leaves : d.leaves ≡ n.leaves
-  pub levels : d.levels ≡ levels_changed old.levels new.levels (count m.bytes.now)
+  pub levels : d.levels ≡ levels_changed s.levels.now t.levels.now (count m.bytes.now)
+  pub lent : SameLent m n s t

@@ -1,8 +1,6 @@
 // One change of a model that is drained: its bytes, and what the slices hold of it.
-ghost use Rattle.std.specs.Prelude.{◌≡◌, Some, None};
-ghost use Rattle.model.specs.Faults.{fault};
-ghost use Rattle.model.specs.Of.{Sized};
-ghost use Rattle.model.specs.Slices.{contents, SameSlices};
+ghost use Rattle.std.specs.Prelude.{◌≡◌, Some};
+ghost use Rattle.model.specs.Slices.{contents};
 ghost use Rattle.changes.specs.Applied.{outcome, answer_to};
 ghost use Rattle.changes.specs.Current.{Drained, Drainable, Redrained, Changes};
 ghost use Rattle.changes.specs.declared.asked.Change.TheVariants.{Rain};
@@ -31,9 +29,7 @@ impl Current<'_> {
     // Drains the model whose bytes were changed, into slices that hold it as it was.
     fn drain_again(&mut self, slices: &mut Slices<'_>) -> Changed
         requires { Drainable self.old (contents slices.old) }
-        ensures after { Redrained self.old self.new (contents slices.old) (contents slices.new) result }
-        ensures bytes { self.new.bytes.ghost_name ≡ self.old.bytes.ghost_name }
-        ensures slices { SameSlices slices.old slices.new }
+        ensures { Redrained self.old self.new slices.old slices.new result }
     {
         let bytes = &mut *self.bytes;
         let model = Model::new(self.grid, bytes);
@@ -56,9 +52,7 @@ impl Current<'_> {
     ) -> Result<Changed, OutOfRange>
         requires { Drained self.old (contents slices.old) (contents slices.old) }
         ensures outcome { result ≡ outcome self.old.bytes.now (Rain cell rain) }
-        ensures after { Changes self.old (Some (Rain cell rain)) self.new (contents slices.old) (contents slices.new) }
-        ensures bytes { self.new.bytes.ghost_name ≡ self.old.bytes.ghost_name }
-        ensures slices { SameSlices slices.old slices.new }
+        ensures after { Changes self.old (Some (Rain cell rain)) self.new slices.old slices.new }
     {
         let bytes = &mut *self.bytes;
         let old = Model::new(self.grid, bytes).rain_of(cell);
@@ -66,7 +60,7 @@ impl Current<'_> {
         let model = Model::new(self.grid, bytes);
         let flow = &mut *slices.flow;
         let amounts = &mut *slices.amounts;
-        let _ = move_amounts(&model, flow, amounts, cell, old, rain);
+        move_amounts(&model, flow, amounts, cell, old, rain);
         self.leaves = Amount(self.leaves.0 + rain.0 - old.0);
         Ok(Changed {
             leaves: self.leaves,
@@ -78,9 +72,7 @@ impl Current<'_> {
     fn apply(&mut self, slices: &mut Slices<'_>, change: Change) -> Result<Changed, OutOfRange>
         requires { Drained self.old (contents slices.old) (contents slices.old) }
         ensures outcome { result ≡ outcome self.old.bytes.now change }
-        ensures after { Changes self.old (Some change) self.new (contents slices.old) (contents slices.new) }
-        ensures bytes { self.new.bytes.ghost_name ≡ self.old.bytes.ghost_name }
-        ensures slices { SameSlices slices.old slices.new }
+        ensures after { Changes self.old (Some change) self.new slices.old slices.new }
     {
         if let Change::Rain(cell, rain) = change {
             return self.change_rain(slices, cell, rain);
@@ -99,9 +91,7 @@ impl Current<'_> {
     ) -> Answer
         requires { Drained self.old (contents slices.old) (contents slices.old) }
         ensures answer { result ≡ answer_to k self.old.bytes.now change }
-        ensures after { Changes self.old change self.new (contents slices.old) (contents slices.new) }
-        ensures bytes { self.new.bytes.ghost_name ≡ self.old.bytes.ghost_name }
-        ensures slices { SameSlices slices.old slices.new }
+        ensures after { Changes self.old change self.new slices.old slices.new }
     {
         let change = change.ok_or(Refusal::Change(k))?;
         self.apply(slices, change).map_err(|_| Refusal::Change(k))

@@ -1,9 +1,9 @@
 // A row of changes applied to a model and to the slices that hold its table.
-ghost use Rattle.std.specs.Prelude.{◌≡◌, ◌≤◌, [], map, length, Some, vec_len, vec_capacity, MatchResult};
+ghost use Rattle.std.specs.Prelude.{◌≡◌, ◌≤◌, [], map, length, vec_len, vec_capacity, MatchResult};
 ghost use Rattle.std.specs.List.{range_with_len};
 ghost use Rattle.model.specs.Slices.{contents, SameSlices};
 ghost use Rattle.changes.specs.Applied.{bytes_after, answer_at};
-ghost use Rattle.changes.specs.Current.{Drained};
+ghost use Rattle.changes.specs.Current.{Drained, SameLent};
 ghost use Rattle.changes.specs.Row.{Applied, Untouched, Fails};
 
 use crate::answer::Answer;
@@ -25,10 +25,9 @@ fn answer_all(
     requires drained { Drained current.old (contents slices.old) (contents slices.old) }
     requires room { (answers.old.items ≡ []) × (vec_len answers.old ≡ 0) × (length row.now ≤ vec_capacity answers.old) }
     ensures after { Drained current.new (contents slices.old) (contents slices.new) }
-    ensures changed { current.new.bytes.now ≡ bytes_after current.old.bytes.now row.now (length row.now) }
+    ensures bytes { current.new.bytes.now ≡ bytes_after current.old.bytes.now row.now (length row.now) }
     ensures answers { answers.new.items ≡ map (answer_at current.old.bytes.now row.now) (range_with_len 0 (length row.now)) }
-    ensures bytes { current.new.bytes.ghost_name ≡ current.old.bytes.ghost_name }
-    ensures slices { SameSlices slices.old slices.new }
+    ensures lent { SameLent current.old current.new slices.old slices.new }
 {
     for (k, asked) in row.iter().enumerate() {
         let answer = current.answer(slices, k, asked.change);

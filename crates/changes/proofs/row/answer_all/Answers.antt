@@ -1,17 +1,14 @@
-use Rattle.std.proofs.Common.{◌≡◌, ◌+◌, map, [], ◌∷◌, ◌++◌, length, vec_items, sym, refl, ap, ◌∙◌, subst, arith, rules}
+use Rattle.std.proofs.Common.{◌≡◌, ◌+◌, map, ◌∷◌, [], ◌++◌, length, vec_items, sym, refl, ap, ◌∙◌, subst, arith}
 use Rattle.std.specs.List.{range_with_len}
-use Rattle.model.specs.Slices.{contents}
 use Rattle.changes.specs.Applied.{bytes_after, answer_at}
 use Rattle.changes.proofs.RowLoop.{Answered, drained_now, none_answered, one_answered}
 use Rattle.changes.proofs.row.answer_all.Goals as goal
 
 pub loop-k-init : goal.loop-k-init
 loop-k-init c = record {
-  answered = subst (Answered c.args.current.now (contents c.args.slices.now) c.args.row.now 0 c.args.current.now (contents c.args.slices.now)) (sym c.requires.room.0) (none_answered _ _ _ c.requires.drained);
+  answered = subst (Answered c.args.current.now c.args.slices.now c.args.row.now 0 c.args.current.now c.args.slices.now) (sym c.requires.room.0) (none_answered _ _ _ c.requires.drained);
   len = c.requires.room.1;
   capacity = refl;
-  bytes = refl;
-  slices = search rules;
 }
 
 pub answer-answer-requires : goal.answer-answer-requires
@@ -24,11 +21,9 @@ loop-k-preserved c =
     let p = c.push_reserved.ensures in
     let told : vec_items c.push_reserved.new.self ≡ vec_items c.loop-k.answers ++ (c.answer-answer.result ∷ []) = p.items in
     record {
-      answered = subst (Answered c.args.current.now (contents c.args.slices.now) c.args.row.now (c.loop-k.k + 1) _ _) (sym told) (one_answered _ _ _ _ _ _ _ i.answered _ _ _ _ refl e.answer e.after);
+      answered = subst (Answered c.args.current.now c.args.slices.now c.args.row.now (c.loop-k.k + 1) _ _) (sym told) (one_answered _ _ _ _ _ _ _ i.answered _ _ _ _ refl e.answer e.after);
       len = omega (arith, p.len, i.len);
       capacity = p.capacity ∙ i.capacity;
-      bytes = e.bytes ∙ i.bytes;
-      slices = search rules;
     }
 
 pub returns : goal.returns
@@ -37,8 +32,7 @@ returns c =
     let all : c.loop-k.k ≡ length c.args.row.now = omega arith in
     record {
       after = i.drained;
-      changed = i.bytes ∙ ap (bytes_after c.args.current.now.bytes.now c.args.row.now) all;
+      bytes = i.bytes ∙ ap (bytes_after c.args.current.now.bytes.now c.args.row.now) all;
       answers = i.told ∙ ap (λ n. map (answer_at c.args.current.now.bytes.now c.args.row.now) (range_with_len 0 n)) all;
-      bytes = c.loop-k.invariant.bytes;
-      slices = c.loop-k.invariant.slices;
+      lent = i.lent;
     }

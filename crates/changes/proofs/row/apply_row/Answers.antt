@@ -24,4 +24,4 @@ returns-clause-after c =
     let r = c.in_ok-model.ensures in
     let e = c.answer_all.ensures in
     let p = subst (λ b. Promise b (contents c.args.slices.now) (contents c.drain_model.new.slices) c.in_ok-leaves.field-0) r.model c.in_ok-leaves.ensures.after in
-    row_ends bs r.meaning (contents c.args.slices.now) (contents c.drain_model.new.slices) c.in_ok-leaves.field-0 p c.args.row.now c.answer_all.new.current (contents c.answer_all.new.slices) _ _ (c.in_ok-leaves.ensures.refused ∙ ap (λ b. room_fault (count b) (contents c.args.slices.now)) r.model) e.after e.changed e.answers (search rules)
+    row_ends bs r.meaning (contents c.args.slices.now) (contents c.drain_model.new.slices) c.in_ok-leaves.field-0 p c.args.row.now c.answer_all.new.current (contents c.answer_all.new.slices) _ _ (c.in_ok-leaves.ensures.refused ∙ ap (λ b. room_fault (count b) (contents c.args.slices.now)) r.model) e.after e.bytes e.answers (search rules)
