@@ -10,6 +10,8 @@ use Rattle.model.specs.Edits.{put_four, fits_cell, but, Rewritten}
 use Rattle.model.specs.Grid.{border, neighbours, four_sides}
 use Rattle.model.specs.Of.{Sized}
 use Rattle.model.specs.WellFormed.{WellFormed}
+use Rattle.model.specs.Faults.{fault}
+use Rattle.model.proofs.Taken.{well_formed}
 use Rattle.model.proofs.Writes.{height_is, mark_is, heights_read_back, rains_read_back, marks_read_back}
 use Rattle.flood.specs.Flooded.{table_of}
 use Rattle.flood.specs.Run.{Ground, table}
@@ -18,10 +20,10 @@ use Rattle.changes.specs.declared.asked.Change.{Change}
 use Rattle.changes.specs.declared.asked.Change.TheVariants.{Height, Rain, Drain}
 
 -- a cell of a grid of the file's size is wholly in the file
-pub cell_fits : (g : Grid) (bs : List ℕ) (c : Cell) → Sized g bs → WellFormed bs → fits_cell g bs c ≡ ltb c.0 (count bs)
-cell_fits g bs c s wf =
+pub cell_fits : (g : Grid) (bs : List ℕ) (c : Cell) → Sized g bs → fault bs ≡ None → fits_cell g bs c ≡ ltb c.0 (count bs)
+cell_fits g bs c s none =
     let size : g.w * g.h ≡ count bs = ap₂ ◌*◌ s.w s.h in
-    rw size (grind (arith, nat_tests, wf.long))
+    rw size (grind (arith, nat_tests, (well_formed bs none).long))
 
 -- a well-formed file of the same sizes
 pub record Kept (bs cs : List ℕ) : Type 0 where
@@ -37,9 +39,6 @@ kept_sized g bs cs k s = record { w = s.w ∙ sym k.w; h = s.h ∙ sym k.h }
 
 kept_by : (bs cs : List ℕ) (at n : ℕ) (height rain mark : ℕ → ℕ) → Rewritten bs cs at n height rain mark → Kept bs cs
 kept_by bs cs at n height rain mark r = record { w = r.w; h = r.h; sound = r.sound }
-
-pub rain_written : (bs : List ℕ) (c v : ℕ) → WellFormed bs → (ltb c (count bs) && leb v 1000000) ≡ true → (c < count bs) × (v ≤ 1000000)
-rain_written bs c v wf may = (grind (arith, nat_tests), grind (arith, nat_tests))
 
 pub edited_kept : (bs : List ℕ) (x : Change) → WellFormed bs → allowed bs x ≡ true → Kept bs (edited bs x)
 edited_kept bs (Height c v) wf may = kept_by _ _ _ _ _ _ _ (heights_read_back bs c.0 v.0 wf (grind (arith, nat_tests)) (grind (arith, nat_tests)))
@@ -85,13 +84,3 @@ module _ (bs : List ℕ) (c v : ℕ) (wf : WellFormed bs) (in_it : c < count bs)
       (ap (λ h. ground (columns bs) h (height_at (put_four bs (start c + 4) v)) (mark_at (put_four bs (start c + 4) v))) rain_rewritten.h ∙
       (ap (λ height. ground (columns bs) (rows bs) height (mark_at (put_four bs (start c + 4) v))) (fun_ext same_height) ∙
       ap (λ mark. ground (columns bs) (rows bs) (height_at bs) mark) (fun_ext same_mark))))
-
--- a write that is done exactly where it is allowed
-pub record Edit (bs cs : List ℕ) (x : Change) (r : Bool) : Type 0 where
-  pub done : r ≡ allowed bs x
-  pub bytes : cs ≡ changed_by bs (Some x)
-
-pub edit_done : (bs cs : List ℕ) (x y : Change) (may r : Bool) → y ≡ x → may ≡ allowed bs x → r ≡ may → cs ≡ cond r (edited bs x) bs → Edit bs cs y r
-edit_done bs cs x y may r e a d w =
-    let p = d ∙ a in
-    subst (λ z. Edit bs cs z r) (sym e) (record { done = p; bytes = w ∙ ap (λ b. cond b (edited bs x) bs) p })

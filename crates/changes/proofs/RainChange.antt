@@ -36,7 +36,7 @@ use Rattle.changes.specs.Current.{Drained, SameLent, Changes}
 use Rattle.changes.specs.Moved.{OffAt}
 use Rattle.changes.proofs.Edits.{kept_count, kept_sized, edited_kept, rain_rewritten, rain_keeps_table}
 use Rattle.changes.proofs.Holding.{enough, none_changed}
-use Rattle.changes.proofs.Outcomes.{made_bytes, refused_bytes, made_outcome}
+use Rattle.changes.proofs.Outcomes.{made_bytes, refused_bytes, made_outcome, changed_sized, changed_taken, now_changes}
 
 -- where the rain of c alone is another, the old amounts add up but at c
 off_begins : (l m : Land) (f : Flow) (g : ℕ → ℕ) (c old new : ℕ) → m.cells ≡ l.cells → c < l.cells → Carried l f g → l.rain c ≡ old → m.rain c ≡ new →
@@ -119,7 +119,6 @@ rained m s c v old was cs d done e same rain =
     let low : v.0 ≤ 1000000 = grind (arith, nat_tests) in
     let put = e ∙ made_bytes bs (Rain c v) may in
     let size = rewritten_count bs cs c.0 v.0 wf in_it low put in
-    let formed = formed_again bs cs c.0 v.0 wf in_it low put in
     let table = same_table bs cs c.0 v.0 wf in_it low put in
     let is : rain_at bs c.0 ≡ old.0 = let at = subst (λ b. old.0 ≡ cond (nat_lt c.0 (count b)) (rain_at b c.0) 0) same rain in grind (arith, nat_tests) in
     let held : (k : ℕ) → k < count bs → get_or s.amounts.now k 0 ≡ amount_in bs k = λ k a. ap (λ xs. get_or xs k 0) d.tabled.poured ∙ get_or_append_left (table_amounts bs) _ 0 k (omega (arith, a, long_amounts bs wf)) in
@@ -131,8 +130,8 @@ rained m s c v old was cs d done e same rain =
     let leaves : m.leaves.0 + v.0 - old.0 ≡ leaves_in cs = omega (arith, leaves_moved bs cs c.0 v.0 wf in_it low put, is, d.leaves) in
     let levels : 0 ≡ levels_between bs cs = sym (ap (λ t. levels_changed (table_of bs).levels t.levels (count bs)) table ∙ none_changed (table_of bs).levels (count bs)) in
     record {
-      sized = subst (Sized m.grid) (sym put) (kept_sized m.grid bs _ (edited_kept bs (Rain c v) wf may) d.sized);
-      taken = taken cs formed;
+      sized = changed_sized m s d (Rain c v) cs e;
+      taken = changed_taken m s d (Rain c v) cs e;
       cell = omega (arith, in_it, size);
       flow = d.tabled.written.flow ∙ ap₂ (λ t n. t.flow ++ drop n s.flow.now) (sym table) (sym size);
       long = omega (arith, enough s.amounts.now _ _ (count bs) (long_amounts bs wf) d.tabled.poured, size);
@@ -142,17 +141,8 @@ rained m s c v old was cs d done e same rain =
       sum = omega (arith, d.leaves, leaves_low bs wf, low);
       rest = omega (arith, d.leaves, is, old_leaves bs cs c.0 v.0 wf in_it low put);
       outcome = λ r l k. made_outcome bs (Rain c v) r may (l ∙ (leaves ∙ ap leaves_in e)) (k ∙ (levels ∙ ap (levels_between bs) e));
-      after = λ k t grid bytes left holds lent. record {
-        bytes = bytes ∙ e;
-        drained = record {
-          sized = subst (λ g. Sized g k.bytes.now) (sym grid) (subst (Sized m.grid) (sym (bytes ∙ put)) (kept_sized m.grid bs _ (edited_kept bs (Rain c v) wf may) d.sized));
-          taken = ap fault bytes ∙ taken cs formed;
-          tabled = subst (λ b. Tabled b (contents s) (contents t)) (sym bytes) (subst (Tabled cs (contents s)) (sym holds) (record {
-            written = subst (λ r. Written r (count cs) s.levels.now s.flow.now s.work.now s.levels.now s.flow.now s.work.now) (sym table) (subst (λ q. Written (table_of bs) q s.levels.now s.flow.now s.work.now s.levels.now s.flow.now s.work.now) (sym size) d.tabled.written);
-            poured = refl;
-          }));
-          leaves = left ∙ (leaves ∙ ap leaves_in (sym bytes));
-        };
-        lent = lent;
-      };
+      after = λ k t grid bytes left holds lent. now_changes m s d (Rain c v) cs e k t grid bytes (left ∙ leaves) (subst (Tabled cs (contents s)) (sym holds) (record {
+        written = subst (λ r. Written r (count cs) s.levels.now s.flow.now s.work.now s.levels.now s.flow.now s.work.now) (sym table) (subst (λ q. Written (table_of bs) q s.levels.now s.flow.now s.work.now s.levels.now s.flow.now s.work.now) (sym size) d.tabled.written);
+        poured = refl;
+      })) lent;
     }

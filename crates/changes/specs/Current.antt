@@ -29,17 +29,3 @@ pub record Changes (m : Current) (o : Option Change) (n : Current) (s t : Slices
   pub bytes : n.bytes.now ≡ changed_by m.bytes.now o
   pub drained : Drained n (contents s) (contents t)
   pub lent : SameLent m n s t
-
--- the bytes are a model of the grid's size, for which the slices have room
-pub record Drainable (m : Current) (s : Contents) : Type 0 where
-  pub sized : Sized m.grid m.bytes.now
-  pub taken : fault m.bytes.now ≡ None
-  pub room : room_fault (count m.bytes.now) s ≡ None
-
--- it was drained, which changed so many levels in the slices
-pub record Redrained (m n : Current) (s t : Slices) (d : Changed) : Type 0 where
-  pub bytes : n.bytes.now ≡ m.bytes.now
-  pub drained : Drained n (contents s) (contents t)
-  pub leaves : d.leaves ≡ n.leaves
-  pub levels : d.levels ≡ levels_changed s.levels.now t.levels.now (count m.bytes.now)
-  pub lent : SameLent m n s t

@@ -2,7 +2,7 @@
 ghost use Rattle.std.specs.Prelude.{◌≡◌, Some};
 ghost use Rattle.model.specs.Slices.{contents};
 ghost use Rattle.changes.specs.Applied.{outcome, answer_to};
-ghost use Rattle.changes.specs.Current.{Drained, Drainable, Redrained, Changes};
+ghost use Rattle.changes.specs.Current.{Drained, Changes};
 ghost use Rattle.changes.specs.declared.asked.Change.TheVariants.{Rain};
 
 use crate::answer::{Answer, Changed};
@@ -26,23 +26,6 @@ pub(crate) struct Current<'a> {
 }
 
 impl Current<'_> {
-    // Drains the model whose bytes were changed, into slices that hold it as it was.
-    fn drain_again(&mut self, slices: &mut Slices<'_>) -> Changed
-        requires { Drainable self.old (contents slices.old) }
-        ensures { Redrained self.old self.new slices.old slices.new result }
-    {
-        let bytes = &mut *self.bytes;
-        let model = Model::new(self.grid, bytes);
-        let Ok(again) = drain_again(&model, slices) else {
-            unreachable()
-        };
-        self.leaves = again.drained.leaves;
-        Changed {
-            leaves: self.leaves,
-            levels: again.changed,
-        }
-    }
-
     // Gives a cell another rain, and moves the amounts on its way; nothing is drained again, and no level changes.
     fn change_rain(
         &mut self,
@@ -68,7 +51,7 @@ impl Current<'_> {
         })
     }
 
-    // Makes one change. Nothing is written where its cell does not exist or its value is out of range.
+    // Makes one change: a rain moves amounts, and other changes are drained again. Nothing is written where its cell does not exist or its value is out of range.
     fn apply(&mut self, slices: &mut Slices<'_>, change: Change) -> Result<Changed, OutOfRange>
         requires { Drained self.old (contents slices.old) (contents slices.old) }
         ensures outcome { result ≡ outcome self.old.bytes.now change }
@@ -79,7 +62,15 @@ impl Current<'_> {
         }
         let bytes = &mut *self.bytes;
         write_change(self.grid, bytes, change)?;
-        Ok(self.drain_again(slices))
+        let model = Model::new(self.grid, bytes);
+        let Ok(again) = drain_again(&model, slices) else {
+            unreachable()
+        };
+        self.leaves = again.drained.leaves;
+        Ok(Changed {
+            leaves: self.leaves,
+            levels: again.changed,
+        })
     }
 
     // Does what is asked for as number k of a row.

@@ -9,6 +9,7 @@ use model::edits::{OutOfRange, write_drain, write_height, write_rain};
 use model::grid::Grid;
 
 // Makes a change in the bytes of a model. Nothing is written where its cell does not exist or its value is out of range.
+#[tactic(auto, using(crate::proofs::Edits::cell_fits))]
 pub(crate) fn write_change(grid: Grid, bytes: &mut [u8], change: Change) -> Result<(), OutOfRange>
     requires sized { Sized grid bytes.old }
     requires taken { fault bytes.old ≡ None }

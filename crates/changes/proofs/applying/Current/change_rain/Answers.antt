@@ -21,7 +21,7 @@ read c =
 pub returns-in_err-write_change-clause-after : goal.returns-in_err-write_change-clause-after
 returns-in_err-write_change-clause-after c =
     let w = c.in_err-write_change.ensures in
-    refused_changes c.args.self.now _ c.args.slices.now c.requires (Rain c.args.cell c.args.rain) refl refl w.bytes (sym w.done) refl
+    refused_changes c.args.self.now c.args.slices.now c.requires (Rain c.args.cell c.args.rain) _ w.bytes _ (sym w.done) refl refl refl (search rules)
 
 pub new-model-requires : goal.new-model-requires
 new-model-requires c =
