@@ -1,8 +1,8 @@
 -- Words of digits, and the numbers that they write, digit after digit.
-use Rattle.std.proofs.Common.{◌≡◌, ℕ, ◌+◌, ◌-◌, ◌*◌, ◌^◌, ◌<◌, ◌≤◌, min, true, false, List, [], ◌∷◌, ◌++◌, length, get_or, take, drop, Some, None, sym, mul_assoc, pow-suc, add-one, arith, lt-ltb}
+use Rattle.std.proofs.Common.{◌≡◌, ℕ, ◌+◌, ◌-◌, ◌*◌, ◌^◌, ◌<◌, min, true, List, [], ◌∷◌, ◌++◌, length, get_or, take, drop, Some, mul_assoc, pow-suc, add-one, arith, lt-ltb}
 use Rattle.std.specs.Char.{is_ascii_digit}
 use Rattle.std.specs.Str.{all_ascii_digits}
-use Rattle.std.proofs.lemmas.List.{drop_more, drop_all, take_more, take_all, length_push}
+use Rattle.std.proofs.lemmas.List.{drop_more, take_more, length_push}
 use Rattle.changes.specs.Text.{written, largest, number_of}
 
 -- one digit more: it counts one, and each before it ten times as much
@@ -10,15 +10,8 @@ written_push : (ds : List ℕ) (d : ℕ) → written (ds ++ d ∷ []) ≡ writte
 written_push [] d = omega arith
 written_push (b ∷ bs) d = rw (length_push bs d, add-one, pow-suc, ← mul_assoc (b - 48) (10 ^ length bs) 10, written_push bs d) (omega arith)
 
-not_number : (word : List ℕ) → all_ascii_digits word ≡ false → None ≡ number_of word
-not_number word bad = rw bad (grind arith)
-
 pub is_number : (word : List ℕ) → 0 < length word → all_ascii_digits word ≡ true → Some (min (written word) largest) ≡ number_of word
 is_number word some good = rw (lt-ltb 0 (length word) some, good)
-
--- a byte that is no digit
-pub bad_digit : (word : List ℕ) (i : ℕ) → i < length word → all_ascii_digits (drop i word) ≡ all_ascii_digits word → false ≡ is_ascii_digit (get_or word i 0) → None ≡ number_of word
-bad_digit word i h old bad = not_number word (sym (rw (drop_more word i 0 h, ← bad) at old))
 
 -- one digit more
 pub more_digits : (word : List ℕ) (i : ℕ) → i < length word → all_ascii_digits (drop i word) ≡ all_ascii_digits word → true ≡ is_ascii_digit (get_or word i 0) → all_ascii_digits (drop (i + 1) word) ≡ all_ascii_digits word
@@ -26,7 +19,3 @@ more_digits word i h old good = rw (drop_more word i 0 h, ← good) at old
 
 pub more_written : (word : List ℕ) (i : ℕ) → i < length word → (n : ℕ) → n ≡ min (written (take i word)) largest → min (min (n * 10) largest + (get_or word i 0 - 48)) largest ≡ min (written (take (i + 1) word)) largest
 more_written word i h n old = rw (take_more word i 0 h, written_push) (omega arith)
-
--- no digit more
-pub whole_number : (word : List ℕ) (i n : ℕ) → 0 < length word → length word ≤ i → all_ascii_digits (drop i word) ≡ all_ascii_digits word → n ≡ min (written (take i word)) largest → Some n ≡ number_of word
-whole_number word i n some end good old = rw (old, take_all i word end) (is_number word some (sym (rw (drop_all i word end) at good)))

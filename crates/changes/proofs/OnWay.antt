@@ -57,10 +57,7 @@ module _ (bs : List ℕ) (wf : WellFormed bs) (before amounts : List ℕ) (first
   pub few_touched : touched < 160001
   few_touched = omega (arith, w.counted, way_short (flow_in bs) ((flow_in bs).far first) first, (ordered bs wf).place first in_it, small bs wf)
 
-  pub low_here : get_or amounts at 0 ≤ 160000000000
-  low_here = w.low at w.cell (omega arith)
-
-  pub old_in_it : old ≤ get_or amounts at 0 + new
+  old_in_it : old ≤ get_or amounts at 0 + new
   old_in_it = omega (arith, w.off.here)
 
   write : get_or amounts at 0 + new - old + old ≡ get_or amounts at 0 + new

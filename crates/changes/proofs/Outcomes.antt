@@ -1,7 +1,6 @@
 -- What comes of a change that is refused, and of one that is made.
-use Rattle.std.proofs.Common.{None, ◌≡◌, ℕ, ◌*◌, true, false, cond, List, Some, Ok, Err, Result, sym, refl, ap, ◌∙◌, subst, ap₂}
+use Rattle.std.proofs.Common.{None, ◌≡◌, ℕ, true, false, cond, List, Some, Ok, Err, Result, sym, ap, ◌∙◌, subst, ap₂}
 use Rattle.model.specs.declared.edits.OutOfRange.{OutOfRange}
-use Rattle.model.specs.declared.grid.Grid.{Grid}
 use Rattle.model.specs.Bytes.{count}
 use Rattle.model.specs.Faults.{fault}
 use Rattle.model.specs.Of.{Sized}
@@ -16,7 +15,7 @@ use Rattle.changes.specs.declared.answer.Changed.{Changed}
 use Rattle.changes.specs.declared.applying.Current.{Current}
 use Rattle.changes.specs.declared.asked.Change.{Change}
 use Rattle.changes.specs.Applied.{allowed, edited, changed_by, leaves_in, levels_between, outcome, Tabled}
-use Rattle.changes.specs.Current.{Drained, SameLent, Changes}
+use Rattle.changes.specs.Current.{IsDrained, SameLent, Changes}
 use Rattle.changes.proofs.Edits.{Kept, kept_count, kept_sized, changed_kept}
 use Rattle.changes.proofs.Holding.{tabled_room, changed_levels}
 
@@ -36,7 +35,7 @@ made_outcome bs x d may l k =
     let none : Result Changed OutOfRange = Err (record {}) in
     ap₂ {C = Result Changed OutOfRange} (λ (u v : ℕ). Ok (record { leaves = record { 0 = u }; levels = v })) l k ∙ sym (ap (λ b. cond b (Ok (came_of bs x)) none) may)
 
-module _ (m : Current) (s : Slices) (d : Drained m (contents s) (contents s)) (x : Change) (cs : List ℕ) (bytes : cs ≡ changed_by m.bytes.now (Some x)) where
+module _ (m : Current) (s : Slices) (d : IsDrained m (contents s) (contents s)) (x : Change) (cs : List ℕ) (bytes : cs ≡ changed_by m.bytes.now (Some x)) where
   wf : WellFormed m.bytes.now
   wf = well_formed m.bytes.now d.taken
 

@@ -11,10 +11,10 @@ use Rattle.model.specs.Faults.{fault}
 use Rattle.model.specs.Land.{Land}
 use Rattle.model.specs.Of.{Sized}
 use Rattle.model.specs.declared.slices.Slices.{Slices}
-use Rattle.model.specs.Slices.{Contents, contents}
+use Rattle.model.specs.Slices.{contents}
 use Rattle.model.specs.Terrain.{land}
 use Rattle.model.specs.WellFormed.{WellFormed}
-use Rattle.model.proofs.Taken.{well_formed, taken}
+use Rattle.model.proofs.Taken.{well_formed}
 use Rattle.flood.specs.Flooded.{table_of, Written}
 use Rattle.flood.specs.Levels.{Flow}
 use Rattle.flood.specs.Run.{flow_of}
@@ -32,9 +32,9 @@ use Rattle.changes.specs.declared.answer.Changed.{Changed}
 use Rattle.changes.specs.declared.applying.Current.{Current}
 use Rattle.changes.specs.declared.asked.Change.TheVariants.{Rain}
 use Rattle.changes.specs.Applied.{allowed, changed_by, leaves_in, levels_between, outcome, Tabled}
-use Rattle.changes.specs.Current.{Drained, SameLent, Changes}
+use Rattle.changes.specs.Current.{IsDrained, SameLent, Changes}
 use Rattle.changes.specs.Moved.{OffAt}
-use Rattle.changes.proofs.Edits.{kept_count, kept_sized, edited_kept, rain_rewritten, rain_keeps_table}
+use Rattle.changes.proofs.Edits.{kept_count, rain_rewritten, rain_keeps_table}
 use Rattle.changes.proofs.Holding.{enough, none_changed}
 use Rattle.changes.proofs.Outcomes.{made_bytes, refused_bytes, made_outcome, changed_sized, changed_taken, now_changes}
 
@@ -109,7 +109,7 @@ pub record Rained (m : Current) (s : Slices) (c : Cell) (v old : Amount) (cs : L
   pub outcome : (r : Changed) → r.leaves.0 ≡ m.leaves.0 + v.0 - old.0 → r.levels ≡ 0 → Ok r ≡ outcome m.bytes.now (Rain c v)
   pub after : (k : Current) (t : Slices) → k.grid ≡ m.grid → k.bytes.now ≡ cs → k.leaves.0 ≡ m.leaves.0 + v.0 - old.0 → contents t ≡ record (contents s) { amounts = table_amounts cs ++ drop (count cs) s.amounts.now } → SameLent m k s t → Changes m (Some (Rain c v)) k s t
 
-pub rained : (m : Current) (s : Slices) (c : Cell) (v old : Amount) (was cs : List ℕ) → Drained m (contents s) (contents s) → true ≡ allowed m.bytes.now (Rain c v) → cs ≡ changed_by m.bytes.now (Some (Rain c v)) →
+pub rained : (m : Current) (s : Slices) (c : Cell) (v old : Amount) (was cs : List ℕ) → IsDrained m (contents s) (contents s) → true ≡ allowed m.bytes.now (Rain c v) → cs ≡ changed_by m.bytes.now (Some (Rain c v)) →
     was ≡ m.bytes.now → old.0 ≡ cond (nat_lt c.0 (count was)) (rain_at was c.0) 0 → Rained m s c v old cs
 rained m s c v old was cs d done e same rain =
     let bs = m.bytes.now in

@@ -7,10 +7,10 @@ use Rattle.model.specs.Bytes.{count}
 use Rattle.model.specs.Faults.{or_else, fault}
 use Rattle.model.specs.Of.{Sized}
 use Rattle.model.specs.declared.slices.Slices.{Slices}
-use Rattle.model.specs.Slices.{Contents, contents, SameSlices}
+use Rattle.model.specs.Slices.{Contents, contents}
 use Rattle.model.specs.WellFormed.{WellFormed}
 use Rattle.model.proofs.Taken.{well_formed, taken}
-use Rattle.amounts.specs.declared.answer.Drained.{Drained as FirstDrained}
+use Rattle.amounts.specs.declared.answer.Drained.{Drained}
 use Rattle.amounts.specs.Draining.{room_fault}
 use Rattle.amounts.specs.Promise.{Promise}
 use Rattle.changes.specs.declared.answer.Changed.{Changed}
@@ -18,7 +18,7 @@ use Rattle.changes.specs.declared.applying.Current.{Current}
 use Rattle.changes.specs.declared.asked.Asked.{Asked}
 use Rattle.changes.specs.declared.asked.Change.{Change}
 use Rattle.changes.specs.Applied.{changed_by, leaves_in, answer_to, asked_for, bytes_after, answer_at, Tabled}
-use Rattle.changes.specs.Current.{Drained, SameLent, Changes}
+use Rattle.changes.specs.Current.{IsDrained, SameLent, Changes}
 use Rattle.changes.specs.Row.{Applied}
 use Rattle.changes.proofs.Edits.{Kept, kept_count, changed_kept}
 use Rattle.changes.proofs.Holding.{first_tabled, tabled_on, tabled_now, tabled_promise}
@@ -33,17 +33,17 @@ row_kept bs row wf (suc k) =
     record { w = here.w ∙ before.w; h = here.h ∙ before.h; sound = here.sound }
 
 -- what holds of the slices from the start holds of them as they are
-pub drained_now : (m : Current) (old new : Contents) → Drained m old new → Drained m new new
+pub drained_now : (m : Current) (old new : Contents) → IsDrained m old new → IsDrained m new new
 drained_now m old new d = record { sized = d.sized; taken = d.taken; tabled = tabled_now m.bytes.now (well_formed m.bytes.now d.taken) old new d.tabled; leaves = d.leaves }
 
 -- after the first k of a row: the model, the slices and the answers so far
 pub record Answered (m : Current) (s : Slices) (row : List Asked) (k : ℕ) (n : Current) (t : Slices) (answers : List (Result Changed Refusal)) : Type 0 where
-  pub drained : Drained n (contents s) (contents t)
+  pub drained : IsDrained n (contents s) (contents t)
   pub lent : SameLent m n s t
   pub bytes : n.bytes.now ≡ bytes_after m.bytes.now row k
   pub told : answers ≡ map (answer_at m.bytes.now row) (range_with_len 0 k)
 
-pub none_answered : (m : Current) (s : Slices) (row : List Asked) → Drained m (contents s) (contents s) → Answered m s row 0 m s []
+pub none_answered : (m : Current) (s : Slices) (row : List Asked) → IsDrained m (contents s) (contents s) → Answered m s row 0 m s []
 unfolding bytes_after
 none_answered m s row d = record { drained = d; lent = record { bytes = refl; slices = record { levels = refl; flow = refl; amounts = refl; work = refl } }; bytes = refl; told = refl }
 
@@ -77,8 +77,8 @@ one_answered m s row k n t answers a o r l u asked e c =
     }
 
 -- a row that was applied to a model, after it was drained
-module _ (bs : List ℕ) (wf : WellFormed bs) (old first : Contents) (d : FirstDrained) (p : Promise bs old first d) where
-  pub row_begins : (m : Current) → m.bytes.now ≡ bs → Sized m.grid bs → m.leaves ≡ d.leaves → Drained m first first
+module _ (bs : List ℕ) (wf : WellFormed bs) (old first : Contents) (d : Drained) (p : Promise bs old first d) where
+  pub row_begins : (m : Current) → m.bytes.now ≡ bs → Sized m.grid bs → m.leaves ≡ d.leaves → IsDrained m first first
   row_begins m same sized leaves = record {
     sized = subst (Sized m.grid) (sym same) sized;
     taken = ap fault same ∙ taken bs wf;
@@ -86,7 +86,7 @@ module _ (bs : List ℕ) (wf : WellFormed bs) (old first : Contents) (d : FirstD
     leaves = ap (λ a. a.0) leaves ∙ (p.leaves ∙ ap leaves_in (sym same));
   }
 
-  pub row_ends : (row : List Asked) (n : Current) (last : Contents) (cs : List ℕ) (answers : List (Result Changed Refusal)) → None ≡ room_fault (count bs) old → Drained n first last → n.bytes.now ≡ bytes_after bs row (length row) →
+  pub row_ends : (row : List Asked) (n : Current) (last : Contents) (cs : List ℕ) (answers : List (Result Changed Refusal)) → None ≡ room_fault (count bs) old → IsDrained n first last → n.bytes.now ≡ bytes_after bs row (length row) →
       answers ≡ map (answer_at bs row) (range_with_len 0 (length row)) → cs ≡ n.bytes.now → Applied bs old row cs last answers
   row_ends row n last cs answers room e after told same =
       let k = subst (Kept bs) (sym (same ∙ after)) (row_kept bs row wf (length row)) in

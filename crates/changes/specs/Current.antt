@@ -1,19 +1,15 @@
 -- What holds of a model while a row changes it.
 use Rattle.std.specs.Prelude.{◌≡◌, None, Option}
-use Rattle.model.specs.Bytes.{count}
 use Rattle.model.specs.Faults.{fault}
 use Rattle.model.specs.Of.{Sized}
 use Rattle.model.specs.declared.slices.Slices.{Slices}
 use Rattle.model.specs.Slices.{Contents, contents, SameSlices}
-use Rattle.amounts.specs.Again.{levels_changed}
-use Rattle.amounts.specs.Draining.{room_fault}
-use Rattle.changes.specs.declared.answer.Changed.{Changed}
 use Rattle.changes.specs.declared.applying.Current.{Current}
 use Rattle.changes.specs.declared.asked.Change.{Change}
 use Rattle.changes.specs.Applied.{changed_by, leaves_in, Tabled}
 
 -- the bytes are a model of the grid's size, of which so much leaves; slices hold its table, and behind it what they held before
-pub record Drained (m : Current) (old new : Contents) : Type 0 where
+pub record IsDrained (m : Current) (old new : Contents) : Type 0 where
   pub sized : Sized m.grid m.bytes.now
   pub taken : fault m.bytes.now ≡ None
   pub tabled : Tabled m.bytes.now old new
@@ -27,5 +23,5 @@ pub record SameLent (m n : Current) (s t : Slices) : Type 0 where
 -- a change was done, or refused, and the model is drained
 pub record Changes (m : Current) (o : Option Change) (n : Current) (s t : Slices) : Type 0 where
   pub bytes : n.bytes.now ≡ changed_by m.bytes.now o
-  pub drained : Drained n (contents s) (contents t)
+  pub drained : IsDrained n (contents s) (contents t)
   pub lent : SameLent m n s t

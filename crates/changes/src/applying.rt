@@ -2,7 +2,7 @@
 ghost use Rattle.std.specs.Prelude.{◌≡◌, Some};
 ghost use Rattle.model.specs.Slices.{contents};
 ghost use Rattle.changes.specs.Applied.{outcome, answer_to};
-ghost use Rattle.changes.specs.Current.{Drained, Changes};
+ghost use Rattle.changes.specs.Current.{IsDrained, Changes};
 ghost use Rattle.changes.specs.declared.asked.Change.TheVariants.{Rain};
 
 use crate::answer::{Answer, Changed};
@@ -33,7 +33,7 @@ impl Current<'_> {
         cell: Cell,
         rain: Amount,
     ) -> Result<Changed, OutOfRange>
-        requires { Drained self.old (contents slices.old) (contents slices.old) }
+        requires { IsDrained self.old (contents slices.old) (contents slices.old) }
         ensures outcome { result ≡ outcome self.old.bytes.now (Rain cell rain) }
         ensures after { Changes self.old (Some (Rain cell rain)) self.new slices.old slices.new }
     {
@@ -53,7 +53,7 @@ impl Current<'_> {
 
     // Makes one change: a rain moves amounts, and other changes are drained again. Nothing is written where its cell does not exist or its value is out of range.
     fn apply(&mut self, slices: &mut Slices<'_>, change: Change) -> Result<Changed, OutOfRange>
-        requires { Drained self.old (contents slices.old) (contents slices.old) }
+        requires { IsDrained self.old (contents slices.old) (contents slices.old) }
         ensures outcome { result ≡ outcome self.old.bytes.now change }
         ensures after { Changes self.old (Some change) self.new slices.old slices.new }
     {
@@ -80,7 +80,7 @@ impl Current<'_> {
         k: usize,
         change: Option<Change>,
     ) -> Answer
-        requires { Drained self.old (contents slices.old) (contents slices.old) }
+        requires { IsDrained self.old (contents slices.old) (contents slices.old) }
         ensures answer { result ≡ answer_to k self.old.bytes.now change }
         ensures after { Changes self.old change self.new slices.old slices.new }
     {

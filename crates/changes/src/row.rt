@@ -3,7 +3,7 @@ ghost use Rattle.std.specs.Prelude.{◌≡◌, ◌≤◌, [], map, length, vec_l
 ghost use Rattle.std.specs.List.{range_with_len};
 ghost use Rattle.model.specs.Slices.{contents, SameSlices};
 ghost use Rattle.changes.specs.Applied.{bytes_after, answer_at};
-ghost use Rattle.changes.specs.Current.{Drained, SameLent};
+ghost use Rattle.changes.specs.Current.{IsDrained, SameLent};
 ghost use Rattle.changes.specs.Row.{Applied, Untouched, Fails};
 
 use crate::answer::Answer;
@@ -22,9 +22,9 @@ fn answer_all(
     row: &[Asked],
     answers: &mut Vec<Answer>,
 )
-    requires drained { Drained current.old (contents slices.old) (contents slices.old) }
+    requires drained { IsDrained current.old (contents slices.old) (contents slices.old) }
     requires room { (answers.old.items ≡ []) × (vec_len answers.old ≡ 0) × (length row.now ≤ vec_capacity answers.old) }
-    ensures after { Drained current.new (contents slices.old) (contents slices.new) }
+    ensures after { IsDrained current.new (contents slices.old) (contents slices.new) }
     ensures bytes { current.new.bytes.now ≡ bytes_after current.old.bytes.now row.now (length row.now) }
     ensures answers { answers.new.items ≡ map (answer_at current.old.bytes.now row.now) (range_with_len 0 (length row.now)) }
     ensures lent { SameLent current.old current.new slices.old slices.new }

@@ -1,24 +1,9 @@
-use Rattle.std.proofs.Common.{ℕ, ◌+◌, ◌-◌, length, get_or, set, sym, refl, ap, subst, arith, length-append}
+use Rattle.std.proofs.Common.{ℕ, ◌+◌, ◌-◌, length, get_or, set, sym, ap, subst, arith, length-append}
 use Rattle.model.proofs.Taken.{formed}
 use Rattle.amounts.proofs.Passes.{table_long}
 use Rattle.amounts.specs.Promise.{flow_in}
-use Rattle.changes.proofs.OnWay.{OnWay, few_touched, low_here, old_in_it, told_on, told_off, way_nearer, way_further, way_done}
+use Rattle.changes.proofs.OnWay.{OnWay, few_touched, told_on, told_off, way_nearer, way_further, way_done}
 use Rattle.changes.proofs.moving.move_amounts.Goals as goal
-
-pub way-init : goal.way-init
-way-init c = record { cell = c.requires.cell; long = c.requires.long; low = λ d a b. c.requires.low d a; off = c.requires.off; counted = omega arith; behind = refl }
-
-pub overflow_add-amounts : goal.overflow_add-amounts
-overflow_add-amounts c =
-    let bs = c.args.model.now.bytes.now in
-    let low = low_here bs (formed bs c.args.model.now.taken) _ _ _ _ _ _ _ c.requires.cell c.way.invariant in
-    omega (arith, low, ap (λ i. get_or c.way.amounts i 0) c.index-c.ensures, c.requires.rain.1)
-
-pub overflow_sub-amounts : goal.overflow_sub-amounts
-overflow_sub-amounts c =
-    let bs = c.args.model.now.bytes.now in
-    let old = old_in_it bs (formed bs c.args.model.now.taken) _ _ _ _ _ _ _ c.requires.cell c.way.invariant in
-    omega (arith, old, ap (λ i. get_or c.way.amounts i 0) c.index-c.ensures)
 
 pub overflow_add-touched : goal.overflow_add-touched
 overflow_add-touched c =

@@ -1,6 +1,4 @@
-use Rattle.std.proofs.Common.{◌≡◌, ◌+◌, map, ◌∷◌, [], ◌++◌, length, vec_items, sym, refl, ap, ◌∙◌, subst, arith}
-use Rattle.std.specs.List.{range_with_len}
-use Rattle.changes.specs.Applied.{bytes_after, answer_at}
+use Rattle.std.proofs.Common.{◌≡◌, ◌+◌, ◌∷◌, [], ◌++◌, vec_items, sym, refl, ◌∙◌, subst, arith}
 use Rattle.changes.proofs.RowLoop.{Answered, drained_now, none_answered, one_answered}
 use Rattle.changes.proofs.row.answer_all.Goals as goal
 
@@ -24,15 +22,4 @@ loop-k-preserved c =
       answered = subst (Answered c.args.current.now c.args.slices.now c.args.row.now (c.loop-k.k + 1) _ _) (sym told) (one_answered _ _ _ _ _ _ _ i.answered _ _ _ _ refl e.answer e.after);
       len = omega (arith, p.len, i.len);
       capacity = p.capacity ∙ i.capacity;
-    }
-
-pub returns : goal.returns
-returns c =
-    let i = c.loop-k.invariant.answered in
-    let all : c.loop-k.k ≡ length c.args.row.now = omega arith in
-    record {
-      after = i.drained;
-      bytes = i.bytes ∙ ap (bytes_after c.args.current.now.bytes.now c.args.row.now) all;
-      answers = i.told ∙ ap (λ n. map (answer_at c.args.current.now.bytes.now c.args.row.now) (range_with_len 0 n)) all;
-      lent = i.lent;
     }

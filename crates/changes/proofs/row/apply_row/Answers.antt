@@ -8,15 +8,12 @@ use Rattle.amounts.specs.Promise.{Promise}
 use Rattle.changes.proofs.RowLoop.{row_begins, row_ends}
 use Rattle.changes.proofs.row.apply_row.Goals as goal
 
-pub answer_all-requires : goal.answer_all-requires
-answer_all-requires c =
+pub answer_all-requires-clause-drained : goal.answer_all-requires-clause-drained
+answer_all-requires-clause-drained c =
     let bs = c.args.bytes.now in
     let r = c.in_ok-model.ensures in
     let p = subst (λ b. Promise b (contents c.args.slices.now) (contents c.drain_model.new.slices) c.in_ok-leaves.field-0) r.model c.in_ok-leaves.ensures.after in
-    record {
-      drained = row_begins bs r.meaning _ _ _ p _ refl (subst (λ g. Sized g bs) (sym c.grid-grid.ensures) r.grid) refl;
-      room = let m = c.in_ok-answers.ensures in (m.items, m.len, m.capacity);
-    }
+    row_begins bs r.meaning _ _ _ p _ refl (subst (λ g. Sized g bs) (sym c.grid-grid.ensures) r.grid) refl
 
 pub returns-clause-after : goal.returns-clause-after
 returns-clause-after c =
