@@ -17,7 +17,8 @@ use model::refusal::Refusal;
 use model::slices::Slices;
 use model::units::{Amount, Cell};
 
-// A model as it stands while a row changes it: its grid, its bytes, and what leaves it.
+// A model as it stands while a row changes it: its grid, its bytes, and what leaves it. The lent slices go beside it and not into it, since
+// of a struct that holds a &mut in another no proof is made; nor is one of a ghost field beside a &mut, so the facts stand in a clause.
 #[derive(Drop)]
 pub(crate) struct Current<'a> {
     pub(crate) grid: Grid,
@@ -51,7 +52,8 @@ impl Current<'_> {
         })
     }
 
-    // Makes one change: a rain moves amounts, and other changes are drained again. Nothing is written where its cell does not exist or its value is out of range.
+    // Makes one change: a rain moves amounts, and all else is drained again. Nothing is written where its cell does not exist or its value
+    // is out of range.
     fn apply(&mut self, slices: &mut Slices<'_>, change: Change) -> Result<Changed, OutOfRange>
         requires { IsDrained self.old (contents slices.old) (contents slices.old) }
         ensures outcome { result ≡ outcome self.old.bytes.now change }

@@ -15,7 +15,7 @@ use model::reading::read;
 use model::slices::Slices;
 use std::alloc::Global;
 
-// Applies a row to a model that the slices hold, and adds the answer to each change.
+// Applies a row to a model that the slices hold, and adds the answer to each change. No chain, whose closure would write into the model.
 fn answer_all(
     current: &mut Current<'_>,
     slices: &mut Slices<'_>,

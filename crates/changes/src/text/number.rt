@@ -2,7 +2,8 @@
 ghost use Rattle.std.specs.Prelude.{◌≡◌};
 ghost use Rattle.changes.specs.Text.{number_of};
 
-// The number that a word writes, if it is one digit or more; the largest u32 where it is larger.
+// The number that a word writes, if it is one digit or more; the largest u32 where it is larger. The library's parse takes a sign, and
+// refuses a larger one.
 pub fn read_number(word: &[u8]) -> Option<u32>
     ensures { result ≡ number_of word.now }
 {
