@@ -3,7 +3,7 @@ ghost use Rattle.std.specs.Prelude.{◌≡◌, ◌≤◌, length, MatchResult};
 ghost use Rattle.std.specs.Result.{result_err};
 ghost use Rattle.model.specs.Bytes.{count};
 ghost use Rattle.model.specs.OfModel.{bytes_of};
-ghost use Rattle.model.specs.Slices.{contents, SameSlices};
+ghost use Rattle.model.specs.Slices.{lists_of, SameSlices};
 ghost use Rattle.amounts.specs.Again.{levels_changed, Again};
 ghost use Rattle.amounts.specs.Draining.{room_fault, Unchanged};
 
@@ -41,8 +41,8 @@ fn count_changed(before: &[u64], levels: &[u32]) -> u32
 // Drains a model that was read, and counts the cells whose level is not the one that stood in the slice. The old levels are kept where
 // the amounts will stand. A slice that is too short is refused, and nothing is written then.
 pub fn drain_again(model: &Model<'_>, slices: &mut Slices<'_>) -> Result<DrainedAgain, Refusal>
-    ensures refused { result_err result ≡ room_fault (count (bytes_of model.now)) (contents slices.old) }
-    ensures after { MatchResult result (λ a. Again (bytes_of model.now) (contents slices.old) (contents slices.new) a) (λ _. Unchanged (contents slices.old) (contents slices.new)) }
+    ensures refused { result_err result ≡ room_fault (count (bytes_of model.now)) (lists_of slices.old) }
+    ensures after { MatchResult result (λ a. Again (bytes_of model.now) (lists_of slices.old) (lists_of slices.new) a) (λ _. Unchanged (lists_of slices.old) (lists_of slices.new)) }
     ensures same { SameSlices slices.old slices.new }
 {
     check_room(model, slices)?;

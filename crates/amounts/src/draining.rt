@@ -3,7 +3,7 @@ ghost use Rattle.std.specs.Prelude.{◌≡◌, ◌*◌, ◌≤◌, ◌++◌, len
 ghost use Rattle.std.specs.Result.{result_err};
 ghost use Rattle.model.specs.Bytes.{count};
 ghost use Rattle.model.specs.OfModel.{bytes_of};
-ghost use Rattle.model.specs.Slices.{contents, SameSlices};
+ghost use Rattle.model.specs.Slices.{lists_of, SameSlices};
 ghost use Rattle.model.specs.Terrain.{land};
 ghost use Rattle.flood.specs.Flooded.{table_of};
 ghost use Rattle.amounts.specs.Amounts.{all_rain, all_off};
@@ -21,7 +21,7 @@ use model::slices::{Slices, long_enough};
 
 // The first of the four slices that is too short for the model.
 pub(crate) fn check_room(model: &Model<'_>, slices: &Slices<'_>) -> Result<(), Refusal>
-    ensures { result_err result ≡ room_fault (count (bytes_of model.now)) (contents slices.now) }
+    ensures { result_err result ≡ room_fault (count (bytes_of model.now)) (lists_of slices.now) }
 {
     let n = model.cells() as usize;
     long_enough(slices.levels, n, Refusal::Short(Lent::Levels))?;
@@ -57,8 +57,8 @@ pub(crate) fn pour(
 
 // Drains a model that was read. A slice that is too short is refused, and nothing is written then.
 pub fn drain_model(model: &Model<'_>, slices: &mut Slices<'_>) -> Result<Drained, Refusal>
-    ensures refused { result_err result ≡ room_fault (count (bytes_of model.now)) (contents slices.old) }
-    ensures after { MatchResult result (λ d. Promise (bytes_of model.now) (contents slices.old) (contents slices.new) d) (λ _. Unchanged (contents slices.old) (contents slices.new)) }
+    ensures refused { result_err result ≡ room_fault (count (bytes_of model.now)) (lists_of slices.old) }
+    ensures after { MatchResult result (λ d. Promise (bytes_of model.now) (lists_of slices.old) (lists_of slices.new) d) (λ _. Unchanged (lists_of slices.old) (lists_of slices.new)) }
     ensures same { SameSlices slices.old slices.new }
 {
     check_room(model, slices)?;
@@ -73,8 +73,8 @@ pub fn drain_model(model: &Model<'_>, slices: &mut Slices<'_>) -> Result<Drained
 // Drains the model in the bytes of a file. The first fault of the bytes is refused, then the first slice that is too short; nothing is
 // written then.
 pub fn drain(bytes: &[u8], slices: &mut Slices<'_>) -> Result<Drained, Refusal>
-    ensures refused { result_err result ≡ drain_fault bytes.now (contents slices.old) }
-    ensures after { MatchResult result (λ d. Promise bytes.now (contents slices.old) (contents slices.new) d) (λ _. Unchanged (contents slices.old) (contents slices.new)) }
+    ensures refused { result_err result ≡ drain_fault bytes.now (lists_of slices.old) }
+    ensures after { MatchResult result (λ d. Promise bytes.now (lists_of slices.old) (lists_of slices.new) d) (λ _. Unchanged (lists_of slices.old) (lists_of slices.new)) }
     ensures same { SameSlices slices.old slices.new }
 {
     drain_model(&read(bytes)?, slices)

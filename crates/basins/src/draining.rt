@@ -3,7 +3,7 @@ ghost use Rattle.std.specs.Prelude.{◌≡◌, MatchResult};
 ghost use Rattle.std.specs.Result.{result_err};
 ghost use Rattle.model.specs.Bytes.{count};
 ghost use Rattle.model.specs.OfModel.{bytes_of};
-ghost use Rattle.model.specs.Slices.{contents, SameSlices};
+ghost use Rattle.model.specs.Slices.{lists_of, SameSlices};
 ghost use Rattle.basins.specs.Draining.{drain_basins_fault, BasinsPromise, Untouched};
 
 use crate::parting::find_basins;
@@ -22,8 +22,8 @@ pub fn drain_basins(
     exits: &mut [u32],
     cells: &mut [u32],
 ) -> Result<Drained, Refused>
-    ensures refused { result_err result ≡ drain_basins_fault (count (bytes_of model.now)) (contents slices.old) exits.old cells.old }
-    ensures after { MatchResult result (λ d. BasinsPromise (bytes_of model.now) (contents slices.old) (contents slices.new) exits.old cells.old exits.new cells.new d) (λ _. Untouched (contents slices.old) (contents slices.new) exits.old cells.old exits.new cells.new) }
+    ensures refused { result_err result ≡ drain_basins_fault (count (bytes_of model.now)) (lists_of slices.old) exits.old cells.old }
+    ensures after { MatchResult result (λ d. BasinsPromise (bytes_of model.now) (lists_of slices.old) (lists_of slices.new) exits.old cells.old exits.new cells.new d) (λ _. Untouched (lists_of slices.old) (lists_of slices.new) exits.old cells.old exits.new cells.new) }
     ensures same { SameSlices slices.old slices.new }
 {
     let n = model.cells() as usize;

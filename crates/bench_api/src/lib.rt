@@ -147,7 +147,7 @@ pub extern "C" fn zaefmoln_change(
     match apply_row(heap, bytes, &mut lent, &row) {
         Ok(answers) => RowAnswer {
             failed: 0,
-            answers: answers.as_slice().len(),
+            answers: answers.len(),
             place: 0,
         },
         Err(failure) => RowAnswer::from(failure),

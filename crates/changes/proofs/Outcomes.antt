@@ -5,7 +5,7 @@ use Rattle.model.specs.Bytes.{count}
 use Rattle.model.specs.Faults.{fault}
 use Rattle.model.specs.Of.{Sized}
 use Rattle.model.specs.declared.slices.Slices.{Slices}
-use Rattle.model.specs.Slices.{contents}
+use Rattle.model.specs.Slices.{lists_of}
 use Rattle.model.specs.WellFormed.{WellFormed}
 use Rattle.model.proofs.Taken.{well_formed, taken}
 use Rattle.amounts.specs.declared.answer.DrainedAgain.{DrainedAgain}
@@ -35,7 +35,7 @@ made_outcome bs x d may l k =
     let none : Result Changed OutOfRange = Err (record {}) in
     ap₂ {C = Result Changed OutOfRange} (λ (u v : ℕ). Ok (record { leaves = record { 0 = u }; levels = v })) l k ∙ sym (ap (λ b. cond b (Ok (came_of bs x)) none) may)
 
-module _ (m : Current) (s : Slices) (d : IsDrained m (contents s) (contents s)) (x : Change) (cs : List ℕ) (bytes : cs ≡ changed_by m.bytes.now (Some x)) where
+module _ (m : Current) (s : Slices) (d : IsDrained m (lists_of s) (lists_of s)) (x : Change) (cs : List ℕ) (bytes : cs ≡ changed_by m.bytes.now (Some x)) where
   wf : WellFormed m.bytes.now
   wf = well_formed m.bytes.now d.taken
 
@@ -49,17 +49,17 @@ module _ (m : Current) (s : Slices) (d : IsDrained m (contents s) (contents s)) 
   pub changed_taken : fault cs ≡ None
   changed_taken = taken cs kept.sound
 
-  pub changed_room : room_fault (count cs) (contents s) ≡ None
-  changed_room = ap (λ k. room_fault k (contents s)) (kept_count m.bytes.now cs kept) ∙ tabled_room m.bytes.now wf (contents s) (contents s) d.tabled
+  pub changed_room : room_fault (count cs) (lists_of s) ≡ None
+  changed_room = ap (λ k. room_fault k (lists_of s)) (kept_count m.bytes.now cs kept) ∙ tabled_room m.bytes.now wf (lists_of s) (lists_of s) d.tabled
 
   -- what holds of the model then, whose slices hold the table of these bytes
-  pub now_changes : (n : Current) (t : Slices) → n.grid ≡ m.grid → n.bytes.now ≡ cs → n.leaves.0 ≡ leaves_in cs → Tabled cs (contents s) (contents t) → SameLent m n s t → Changes m (Some x) n s t
+  pub now_changes : (n : Current) (t : Slices) → n.grid ≡ m.grid → n.bytes.now ≡ cs → n.leaves.0 ≡ leaves_in cs → Tabled cs (lists_of s) (lists_of t) → SameLent m n s t → Changes m (Some x) n s t
   now_changes n t grid same leaves tabled lent = record {
     bytes = same ∙ bytes;
     drained = record {
       sized = subst (λ g. Sized g n.bytes.now) (sym grid) (subst (Sized m.grid) (sym same) changed_sized);
       taken = ap fault same ∙ changed_taken;
-      tabled = subst (λ b. Tabled b (contents s) (contents t)) (sym same) tabled;
+      tabled = subst (λ b. Tabled b (lists_of s) (lists_of t)) (sym same) tabled;
       leaves = leaves ∙ ap leaves_in (sym same);
     };
     lent = lent;
@@ -69,10 +69,10 @@ module _ (m : Current) (s : Slices) (d : IsDrained m (contents s) (contents s)) 
   pub refused_changes : (n : Current) → allowed m.bytes.now x ≡ false → n.grid ≡ m.grid → n.bytes.now ≡ cs → n.leaves.0 ≡ m.leaves.0 → SameLent m n s s → Changes m (Some x) n s s
   refused_changes n not grid same leaves lent =
       let stays = bytes ∙ refused_bytes m.bytes.now x not in
-      now_changes n s grid same (leaves ∙ (d.leaves ∙ ap leaves_in (sym stays))) (subst (λ b. Tabled b (contents s) (contents s)) (sym stays) d.tabled) lent
+      now_changes n s grid same (leaves ∙ (d.leaves ∙ ap leaves_in (sym stays))) (subst (λ b. Tabled b (lists_of s) (lists_of s)) (sym stays) d.tabled) lent
 
   -- where it is made and drained again, what comes of it is what draining answers
-  pub redrained_outcome : (t : Slices) (a : DrainedAgain) → Again cs (contents s) (contents t) a → allowed m.bytes.now x ≡ true → Ok (record { leaves = a.drained.leaves; levels = a.changed }) ≡ outcome m.bytes.now x
+  pub redrained_outcome : (t : Slices) (a : DrainedAgain) → Again cs (lists_of s) (lists_of t) a → allowed m.bytes.now x ≡ true → Ok (record { leaves = a.drained.leaves; levels = a.changed }) ≡ outcome m.bytes.now x
   redrained_outcome t a again may =
       let levels = changed_levels m.bytes.now cs _ _ _ _ wf kept.sound (kept_count m.bytes.now cs kept) d.tabled.written.levels again.promise.written.levels in
       made_outcome m.bytes.now x _ may (again.promise.leaves ∙ ap leaves_in bytes) (again.changed ∙ (levels ∙ ap (levels_between m.bytes.now) bytes))

@@ -11,7 +11,7 @@ use Rattle.model.specs.Faults.{fault}
 use Rattle.model.specs.Land.{Land}
 use Rattle.model.specs.Of.{Sized}
 use Rattle.model.specs.declared.slices.Slices.{Slices}
-use Rattle.model.specs.Slices.{contents}
+use Rattle.model.specs.Slices.{lists_of}
 use Rattle.model.specs.Terrain.{land}
 use Rattle.model.specs.WellFormed.{WellFormed}
 use Rattle.model.proofs.Taken.{well_formed}
@@ -107,9 +107,9 @@ pub record Rained (m : Current) (s : Slices) (c : Cell) (v old : Amount) (cs : L
   pub sum : m.leaves.0 + v.0 ≤ 160001000000
   pub rest : old.0 ≤ m.leaves.0 + v.0
   pub outcome : (r : Changed) → r.leaves.0 ≡ m.leaves.0 + v.0 - old.0 → r.levels ≡ 0 → Ok r ≡ outcome m.bytes.now (Rain c v)
-  pub after : (k : Current) (t : Slices) → k.grid ≡ m.grid → k.bytes.now ≡ cs → k.leaves.0 ≡ m.leaves.0 + v.0 - old.0 → contents t ≡ record (contents s) { amounts = table_amounts cs ++ drop (count cs) s.amounts.now } → SameLent m k s t → Changes m (Some (Rain c v)) k s t
+  pub after : (k : Current) (t : Slices) → k.grid ≡ m.grid → k.bytes.now ≡ cs → k.leaves.0 ≡ m.leaves.0 + v.0 - old.0 → lists_of t ≡ record (lists_of s) { amounts = table_amounts cs ++ drop (count cs) s.amounts.now } → SameLent m k s t → Changes m (Some (Rain c v)) k s t
 
-pub rained : (m : Current) (s : Slices) (c : Cell) (v old : Amount) (was cs : List ℕ) → IsDrained m (contents s) (contents s) → true ≡ allowed m.bytes.now (Rain c v) → cs ≡ changed_by m.bytes.now (Some (Rain c v)) →
+pub rained : (m : Current) (s : Slices) (c : Cell) (v old : Amount) (was cs : List ℕ) → IsDrained m (lists_of s) (lists_of s) → true ≡ allowed m.bytes.now (Rain c v) → cs ≡ changed_by m.bytes.now (Some (Rain c v)) →
     was ≡ m.bytes.now → old.0 ≡ cond (nat_lt c.0 (count was)) (rain_at was c.0) 0 → Rained m s c v old cs
 rained m s c v old was cs d done e same rain =
     let bs = m.bytes.now in
@@ -141,7 +141,7 @@ rained m s c v old was cs d done e same rain =
       sum = omega (arith, d.leaves, leaves_low bs wf, low);
       rest = omega (arith, d.leaves, is, old_leaves bs cs c.0 v.0 wf in_it low put);
       outcome = λ r l k. made_outcome bs (Rain c v) r may (l ∙ (leaves ∙ ap leaves_in e)) (k ∙ (levels ∙ ap (levels_between bs) e));
-      after = λ k t grid bytes left holds lent. now_changes m s d (Rain c v) cs e k t grid bytes (left ∙ leaves) (subst (Tabled cs (contents s)) (sym holds) (record {
+      after = λ k t grid bytes left holds lent. now_changes m s d (Rain c v) cs e k t grid bytes (left ∙ leaves) (subst (Tabled cs (lists_of s)) (sym holds) (record {
         written = subst (λ r. Written r (count cs) s.levels.now s.flow.now s.work.now s.levels.now s.flow.now s.work.now) (sym table) (subst (λ q. Written (table_of bs) q s.levels.now s.flow.now s.work.now s.levels.now s.flow.now s.work.now) (sym size) d.tabled.written);
         poured = refl;
       })) lent;

@@ -7,7 +7,7 @@ use Rattle.model.specs.Bytes.{count}
 use Rattle.model.specs.Faults.{or_else, fault}
 use Rattle.model.specs.Of.{Sized}
 use Rattle.model.specs.declared.slices.Slices.{Slices}
-use Rattle.model.specs.Slices.{Contents, contents}
+use Rattle.model.specs.Slices.{Contents, lists_of}
 use Rattle.model.specs.WellFormed.{WellFormed}
 use Rattle.model.proofs.Taken.{well_formed, taken}
 use Rattle.amounts.specs.declared.answer.Drained.{Drained}
@@ -38,12 +38,12 @@ drained_now m old new d = record { sized = d.sized; taken = d.taken; tabled = ta
 
 -- after the first k of a row: the model, the slices and the answers so far
 pub record Answered (m : Current) (s : Slices) (row : List Asked) (k : ℕ) (n : Current) (t : Slices) (answers : List (Result Changed Refusal)) : Type 0 where
-  pub drained : IsDrained n (contents s) (contents t)
+  pub drained : IsDrained n (lists_of s) (lists_of t)
   pub lent : SameLent m n s t
   pub bytes : n.bytes.now ≡ bytes_after m.bytes.now row k
   pub told : answers ≡ map (answer_at m.bytes.now row) (range_with_len 0 k)
 
-pub none_answered : (m : Current) (s : Slices) (row : List Asked) → IsDrained m (contents s) (contents s) → Answered m s row 0 m s []
+pub none_answered : (m : Current) (s : Slices) (row : List Asked) → IsDrained m (lists_of s) (lists_of s) → Answered m s row 0 m s []
 unfolding bytes_after
 none_answered m s row d = record { drained = d; lent = record { bytes = refl; slices = record { levels = refl; flow = refl; amounts = refl; work = refl } }; bytes = refl; told = refl }
 
@@ -60,7 +60,7 @@ one_answered m s row k n t answers a o r l u asked e c =
       drained = record {
         sized = c.drained.sized;
         taken = c.drained.taken;
-        tabled = tabled_on n.bytes.now wf (contents s) (contents t) a.drained.tabled l.bytes.now (contents u) (kept_count n.bytes.now l.bytes.now kept) c.drained.tabled;
+        tabled = tabled_on n.bytes.now wf (lists_of s) (lists_of t) a.drained.tabled l.bytes.now (lists_of u) (kept_count n.bytes.now l.bytes.now kept) c.drained.tabled;
         leaves = c.drained.leaves;
       };
       lent = record {

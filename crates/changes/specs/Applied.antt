@@ -47,7 +47,7 @@ leaves_in bs = all_off (flow_in bs) (amount_in bs) (count bs)
 abbrev pub levels_between : (before after : List ℕ) → ℕ
 levels_between before after = levels_changed (table_of before).levels (table_of after).levels (count before)
 
--- what comes of a change: what leaves then and how many levels change, or nothing where it is refused
+-- what comes of a change: what leaves then and how many levels change, or that it is out of range
 abbrev pub outcome : List ℕ → Change → Result Changed OutOfRange
 outcome bs x = cond (allowed bs x) (Ok (record { leaves = record { 0 = leaves_in (changed_by bs (Some x)) }; levels = levels_between bs (changed_by bs (Some x)) })) (Err (record {}))
 

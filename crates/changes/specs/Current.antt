@@ -3,7 +3,7 @@ use Rattle.std.specs.Prelude.{◌≡◌, None, Option}
 use Rattle.model.specs.Faults.{fault}
 use Rattle.model.specs.Of.{Sized}
 use Rattle.model.specs.declared.slices.Slices.{Slices}
-use Rattle.model.specs.Slices.{Contents, contents, SameSlices}
+use Rattle.model.specs.Slices.{Contents, lists_of, SameSlices}
 use Rattle.changes.specs.declared.applying.Current.{Current}
 use Rattle.changes.specs.declared.asked.Change.{Change}
 use Rattle.changes.specs.Applied.{changed_by, leaves_in, Tabled}
@@ -23,5 +23,5 @@ pub record SameLent (m n : Current) (s t : Slices) : Type 0 where
 -- a change was done, or refused, and the model is drained
 pub record Changes (m : Current) (o : Option Change) (n : Current) (s t : Slices) : Type 0 where
   pub bytes : n.bytes.now ≡ changed_by m.bytes.now o
-  pub drained : IsDrained n (contents s) (contents t)
+  pub drained : IsDrained n (lists_of s) (lists_of t)
   pub lent : SameLent m n s t

@@ -14,8 +14,8 @@ use flood::sends::Sends;
 use model::land::Model;
 use model::units::{Amount, Cell};
 
-// From a cell down to its exit, each amount is less by the old rain and more by the new. Returns how many cells that are. The way is
-// followed by a loop that is left at its end, a rule of the project.
+// From a cell down to its exit, each amount is less by the old rain and more by the new. Returns how many cells that are. A way is followed
+// by a loop that ends where it sends off; no number counts its steps.
 pub(crate) fn move_amounts(
     model: &Model<'_>,
     flow: &[u32],

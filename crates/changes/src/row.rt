@@ -1,7 +1,7 @@
 // A row of changes applied to a model and to the slices that hold its table.
 ghost use Rattle.std.specs.Prelude.{◌≡◌, ◌≤◌, [], map, length, vec_len, vec_capacity, MatchResult};
 ghost use Rattle.std.specs.List.{range_with_len};
-ghost use Rattle.model.specs.Slices.{contents, SameSlices};
+ghost use Rattle.model.specs.Slices.{lists_of, SameSlices};
 ghost use Rattle.changes.specs.Applied.{bytes_after, answer_at};
 ghost use Rattle.changes.specs.Current.{IsDrained, SameLent};
 ghost use Rattle.changes.specs.Row.{Applied, Untouched, Fails};
@@ -22,9 +22,9 @@ fn answer_all(
     row: &[Asked],
     answers: &mut Vec<Answer>,
 )
-    requires drained { IsDrained current.old (contents slices.old) (contents slices.old) }
+    requires drained { IsDrained current.old (lists_of slices.old) (lists_of slices.old) }
     requires room { (answers.old.items ≡ []) × (vec_len answers.old ≡ 0) × (length row.now ≤ vec_capacity answers.old) }
-    ensures after { IsDrained current.new (contents slices.old) (contents slices.new) }
+    ensures after { IsDrained current.new (lists_of slices.old) (lists_of slices.new) }
     ensures bytes { current.new.bytes.now ≡ bytes_after current.old.bytes.now row.now (length row.now) }
     ensures answers { answers.new.items ≡ map (answer_at current.old.bytes.now row.now) (range_with_len 0 (length row.now)) }
     ensures lent { SameLent current.old current.new slices.old slices.new }
@@ -44,7 +44,7 @@ pub fn apply_row(
     slices: &mut Slices<'_>,
     row: &[Asked],
 ) -> Result<Vec<Answer>, Failure>
-    ensures after { MatchResult result (λ v. Applied bytes.old (contents slices.old) row.now bytes.new (contents slices.new) v.items) (λ f. Fails bytes.old (contents slices.old) f × Untouched bytes.old (contents slices.old) bytes.new (contents slices.new)) }
+    ensures after { MatchResult result (λ v. Applied bytes.old (lists_of slices.old) row.now bytes.new (lists_of slices.new) v.items) (λ f. Fails bytes.old (lists_of slices.old) f × Untouched bytes.old (lists_of slices.old) bytes.new (lists_of slices.new)) }
     ensures same { SameSlices slices.old slices.new }
 {
     let mut answers = Vec::with_capacity(heap, row.len())?;

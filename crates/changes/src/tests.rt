@@ -171,7 +171,7 @@ fn answers(rt: &impl Abort, heap: Global, text: &[u8], expected: &[Answer]) -> R
         work: &mut work,
     };
     let row = read_row(heap, text)?;
-    let Ok(given) = apply_row(heap, &mut bytes, &mut slices, row.as_slice()) else {
+    let Ok(given) = apply_row(heap, &mut bytes, &mut slices, &row) else {
         return Err(Fail::new("the row is not applied"));
     };
     assert!(rt; given.as_slice() == expected);

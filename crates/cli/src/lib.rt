@@ -15,7 +15,8 @@ use tables::lines::refusal_line;
 #[derive(Debug, Drop)]
 pub struct Failed;
 
-// A program's exit status. What went wrong is printed already, so a program ends with this and not with the error itself.
+// A program's exit status. What went wrong is printed already, so a program ends with this and not with the error itself. Each program's
+// main says its name and calls this; a function around that would take what it runs as a closure and be no plainer.
 pub fn status_of(done: Result<(), Failed>) -> ExitCode
     ensures ok { OnOk done (result ≡ ExitCode.SUCCESS) }
     ensures err { OnErr done (result ≡ ExitCode.FAILURE) }
@@ -46,8 +47,10 @@ impl Program<'_> {
 
     // Writes a file whole or not at all: what stood there before stays until the new file is complete.
     pub fn save_file(&self, path: &str, bytes: &[u8]) -> Result<(), Failed> {
-        replaced(self.rt, path, bytes)
-            .map_err(|error| self.cannot(format_args!("write {path}"), error))
+        replaced(self.rt, path, bytes).map_err(|error| self.cannot(
+            format_args!("write {path}"),
+            error,
+        ))
     }
 
     // Text on standard output, by one write.

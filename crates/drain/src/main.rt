@@ -12,8 +12,7 @@ const USAGE: &str =
 // Drains the model in a file, saves its table if asked to, and prints its lines.
 fn drain_file(program: &Program<'_>, model: &str, table: Option<&str>) -> Result<(), Failed> {
     let bytes = program.read_file(model)?;
-    let report =
-        drained(program.rt.alloc(), &bytes).map_err(|failure| program.fail(failure))?;
+    let report = drained(program.rt.alloc(), &bytes).map_err(|failure| program.fail(failure))?;
     if let Some(path) = table {
         program.save_file(path, &report.table)?;
     }

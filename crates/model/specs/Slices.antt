@@ -9,8 +9,8 @@ pub record Contents : Type 0 where
   pub amounts : List ℕ
   pub work : List ℕ
 
-abbrev pub contents : Slices → Contents
-contents s = record { levels = s.levels.now; flow = s.flow.now; amounts = s.amounts.now; work = s.work.now }
+abbrev pub lists_of : Slices → Contents
+lists_of s = record { levels = s.levels.now; flow = s.flow.now; amounts = s.amounts.now; work = s.work.now }
 
 -- they are the same four slices, whatever stands in them
 pub record SameSlices (old new : Slices) : Type 0 where

@@ -35,7 +35,8 @@ fn drained_table(heap: Global, ground: &Ground) -> Result<Vec<u8>, AllocError> {
     table_of(heap, &drained_rows(heap, ground)?)
 }
 
-// The levels beside those that a search of all ways gives.
+// The levels beside those that a search of all ways gives. It and the two below are not one function: what they compare are two types, and two
+// closures for each would be no plainer.
 pub fn compare_ways(run: &mut Run, ground: &Ground) -> Result<(), AllocError> {
     let found = drained_levels(run.heap, ground)?;
     let expected = lowest_ways(run.heap, ground)?;

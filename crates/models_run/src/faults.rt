@@ -1,6 +1,25 @@
 // The first fault of a model file, by the rules of the format.
 use crate::land::MOST;
-use model::refusal::{Refusal, Side};
+use model::refusal::{Lent, Refusal, Side};
+
+// The number and the place that the formats give a refusal, written again.
+pub fn reported(refusal: Refusal) -> (u32, usize) {
+    match refusal {
+        Refusal::Length(at) => (1, at),
+        Refusal::Size(Side::Columns) => (2, 0),
+        Refusal::Size(Side::Rows) => (2, 2),
+        Refusal::Value(at) => (3, at),
+        Refusal::Short(Lent::Levels) => (4, 0),
+        Refusal::Short(Lent::Flow) => (4, 1),
+        Refusal::Short(Lent::Amounts) => (4, 2),
+        Refusal::Short(Lent::Work) => (4, 3),
+        Refusal::Change(number) => (5, number),
+        Refusal::Table(length) => (6, length),
+        Refusal::Level(cell) => (7, cell.0 as usize),
+        Refusal::Sends(cell) => (8, cell.0 as usize),
+        Refusal::Amount(cell) => (9, cell.0 as usize),
+    }
+}
 
 // A file, and where its next field begins.
 #[derive(Clone, Copy)]

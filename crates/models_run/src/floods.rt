@@ -9,7 +9,8 @@ fn touches(ground: &Ground, levels: &[Option<u32>], cell: usize) -> bool {
     beside.any(|side| levels.get(side).is_some_and(|level| level.is_some()))
 }
 
-// Gives a height as their level to the cells up to it that are outlets or touch one with a level; whether there was one more.
+// Gives a height as their level to the cells up to it that are outlets or touch one with a level; whether there was one more, as a set's
+// insert says it.
 fn spread(ground: &Ground, levels: &mut [Option<u32>], height: u32) -> bool {
     let mut more = false;
     for (cell, spot) in ground.spots.iter().enumerate() {

@@ -1,4 +1,5 @@
-// What draining leaves of each cell, and the bytes of a table that say so.
+// What draining leaves of each cell, and the bytes of a table that say so. Written again on purpose, as the counting of changed levels and
+// the reading of models are: code of the library would be compared with itself.
 use std::alloc::{AllocError, Global};
 
 // The bytes of a cell in a table.

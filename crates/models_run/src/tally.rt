@@ -1,4 +1,5 @@
 // What was compared.
+use crate::faults::reported;
 use model::refusal::Refusal;
 use std::alloc::{AllocError, Global};
 use std::collections::{BTreeMap, BTreeSet};
@@ -98,14 +99,16 @@ impl Tallies {
         Ok(())
     }
 
-    // A comparison of the refusal found, if there is one, with the one expected.
+    // A comparison of the refusal found, if there is one, with the one expected, by what is reported of them.
     pub fn note_refusal(
         &mut self,
         comparison: Comparison,
         found: Option<Refusal>,
         expected: Option<Refusal>,
     ) -> Result<(), AllocError> {
-        let number = expected.map(|refusal| refusal.number());
+        let found = found.map(|refusal| (refusal.number(), refusal.place()));
+        let expected = expected.map(reported);
+        let number = expected.map(|(number, _)| number);
         self.expected.insert((comparison, number))?;
         self.note(comparison, found == expected)
     }

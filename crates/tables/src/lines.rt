@@ -41,7 +41,7 @@ impl fmt::Display for Summary {
     }
 }
 
-// A cell's level.
+// A cell's level. A type for each sort of line, since a line is what its value displays.
 #[derive(Clone, Copy)]
 struct Level {
     cell: Cell,

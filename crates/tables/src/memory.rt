@@ -2,7 +2,7 @@
 ghost use Rattle.std.specs.Prelude.{◌≡◌, IfOk};
 ghost use Rattle.model.specs.Bytes.{count};
 ghost use Rattle.model.specs.OfModel.{bytes_of};
-ghost use Rattle.model.specs.Slices.{contents};
+ghost use Rattle.model.specs.Slices.{lists_of};
 ghost use Rattle.tables.specs.Memory.{held, zeros};
 
 use model::land::Model;
@@ -34,7 +34,7 @@ impl Memory {
 
     // All of it, to lend.
     pub(crate) fn slices(&mut self) -> Slices<'_>
-        ensures { contents result ≡ held self.entry.now }
+        ensures { lists_of result ≡ held self.entry.now }
     {
         Slices {
             levels: &mut self.levels,

@@ -2,7 +2,7 @@
 use Rattle.std.proofs.Common.{◌≡◌, ◌-◌, ◌≤◌, ◌++◌, length, ap, ◌∙◌, arith}
 use Rattle.std.proofs.lemmas.Bool.Decides.{nat_tests}
 use Rattle.model.specs.Bytes.{count}
-use Rattle.model.specs.Slices.{contents}
+use Rattle.model.specs.Slices.{lists_of}
 use Rattle.model.proofs.Taken.{formed}
 use Rattle.amounts.specs.Passing.{table_amounts}
 use Rattle.amounts.proofs.Promised.{pourable, promised}
@@ -18,7 +18,7 @@ pub returns-clause-after : goal.returns-clause-after
 returns-clause-after c =
     let bs = c.args.model.now.bytes.now in
     let wf = formed bs c.args.model.now.taken in
-    let old = contents c.args.slices.now in
+    let old = lists_of c.args.slices.now in
     let p = c.pour-drained.ensures in
     let same : c.cells-n.result - 0 ≡ count bs = omega (arith, c.cells-n.ensures) in
     let long : c.cells-n.result - 0 ≤ length old.levels = grind (arith, nat_tests) in

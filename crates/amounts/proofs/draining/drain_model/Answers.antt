@@ -1,5 +1,5 @@
 -- The flood's lists are handed on, and what is promised follows from what they hold.
-use Rattle.model.specs.Slices.{contents}
+use Rattle.model.specs.Slices.{lists_of}
 use Rattle.model.proofs.Taken.{formed}
 use Rattle.amounts.proofs.Promised.{pourable, promised}
 use Rattle.amounts.proofs.draining.drain_model.Goals as goal
@@ -13,4 +13,4 @@ pub returns-clause-after : goal.returns-clause-after
 returns-clause-after c =
     let bs = c.args.model.now.bytes.now in
     let p = c.pour.ensures in
-    promised bs (formed bs c.args.model.now.taken) (contents c.args.slices.now) _ c.pour.result _ c.in_ok-looks.ensures.after p.looks p.amounts p.rain p.leaves
+    promised bs (formed bs c.args.model.now.taken) (lists_of c.args.slices.now) _ c.pour.result _ c.in_ok-looks.ensures.after p.looks p.amounts p.rain p.leaves

@@ -3,7 +3,7 @@ use Rattle.std.proofs.Common.{◌++◌, sym, ap, ap₂, ◌∙◌}
 use Rattle.std.specs.List.{flat_map}
 use Rattle.std.proofs.lemmas.List.{with_items_is}
 use Rattle.model.specs.Bytes.{count}
-use Rattle.model.specs.Slices.{contents}
+use Rattle.model.specs.Slices.{lists_of}
 use Rattle.model.proofs.Taken.{formed}
 use Rattle.amounts.specs.Promise.{table_bytes}
 use Rattle.checker.specs.Faults.{check_fault}
@@ -18,7 +18,7 @@ table_rows-requires c =
     let model = c.in_ok-read.field-0 in
     let copied = c.deref_mut.ensures.value ∙ (c.in_ok-extend_from_slice.ensures.items ∙ (ap (λ xs. xs ++ c.args.bytes.now) c.new-model.ensures.items ∙ sym c.in_ok-read.ensures.model)) in
     let long = lent_long (count model.bytes.now) _ _ c.in_ok-memory.ensures c.slices-slices.ensures in
-    let left = row_left model.bytes.now _ c.apply_row.new.bytes _ (contents c.apply_row.new.slices) _ _ copied c.in_ok-answers.ensures.after (formed model.bytes.now model.taken) long in
+    let left = row_left model.bytes.now _ c.apply_row.new.bytes _ (lists_of c.apply_row.new.slices) _ _ copied c.in_ok-answers.ensures.after (formed model.bytes.now model.taken) long in
     record { long = just_long c.apply_row.new.bytes left.sound _ left.held; places = places_low c.apply_row.new.bytes left.sound _ left.held }
 
 pub returns : goal.returns
@@ -29,7 +29,7 @@ returns c =
     let copied = c.deref_mut.ensures.value ∙ (c.in_ok-extend_from_slice.ensures.items ∙ (ap (λ xs. xs ++ c.args.bytes.now) c.new-model.ensures.items ∙ sym c.in_ok-read.ensures.model)) in
     let long = lent_long (count bs) _ _ c.in_ok-memory.ensures c.slices-slices.ensures in
     let applied = c.in_ok-answers.ensures.after in
-    let left = row_left bs _ cs _ (contents c.apply_row.new.slices) _ _ copied applied (formed bs model.taken) long in
+    let left = row_left bs _ cs _ (lists_of c.apply_row.new.slices) _ _ copied applied (formed bs model.taken) long in
     let rows = rows_told cs left.sound _ left.held _ c.in_ok-table_rows.ensures in
     let whole = with_items_is c.extend_from_slice.new.self cs (c.apply_row.auto.bytes ∙ c.deref_mut.ensures.len) in
     let same = c.in_ok-read.ensures.model in

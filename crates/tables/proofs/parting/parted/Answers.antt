@@ -16,6 +16,5 @@ returns c =
     let amounts = c.drain_basins.new.slices.amounts.now in
     let cells = c.drain_basins.new.cells in
     let same = c.in_ok-model.ensures.model in
-    let lines = joined (λ e. basin_if (basin_at flow amounts cells e)) in
     let listed = joined_same (λ e. basin_if (basin_at flow amounts cells e)) (λ e. basin_if (cond ((flow_in bs).off e) (Some (basin_of bs e)) None)) (count bs) (λ x a. ap basin_if (c.in-Ok.ensures.after.listed x a)) in
-    (sym c.in_ok-model.ensures.fault, c.in_ok-basin_lines.ensures ∙ (ap lines c.cells-n.ensures ∙ (listed ∙ ap basins_text same)))
+    (sym c.in_ok-model.ensures.fault, c.in_ok-basin_lines.ensures ∙ (listed ∙ ap basins_text same))

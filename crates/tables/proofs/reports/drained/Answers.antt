@@ -1,7 +1,7 @@
 -- What draining left is what the text and the table say.
 use Rattle.std.proofs.Common.{sym, ap, ap₂, ◌∙◌}
 use Rattle.model.specs.Bytes.{count}
-use Rattle.model.specs.Slices.{contents}
+use Rattle.model.specs.Slices.{lists_of}
 use Rattle.model.proofs.Taken.{formed}
 use Rattle.amounts.specs.Promise.{table_bytes}
 use Rattle.checker.specs.Faults.{check_fault}
@@ -15,7 +15,7 @@ table_rows-requires c =
     let model = c.in_ok-model.model in
     let bs = model.bytes.now in
     let long = lent_long (count bs) _ _ c.in_ok-memory.ensures c.slices-slices.ensures in
-    let held = holds bs _ (contents c.drain_model.new.slices) c.in_ok-answer.answer c.in_ok-answer.ensures.after long in
+    let held = holds bs _ (lists_of c.drain_model.new.slices) c.in_ok-answer.answer c.in_ok-answer.ensures.after long in
     record { long = just_long bs (formed bs model.taken) _ held; places = places_low bs (formed bs model.taken) _ held }
 
 pub returns : goal.returns
@@ -25,7 +25,7 @@ returns c =
     let wf = formed bs model.taken in
     let promise = c.in_ok-answer.ensures.after in
     let long = lent_long (count bs) _ _ c.in_ok-memory.ensures c.slices-slices.ensures in
-    let held = holds bs _ (contents c.drain_model.new.slices) c.in_ok-answer.answer promise long in
+    let held = holds bs _ (lists_of c.drain_model.new.slices) c.in_ok-answer.answer promise long in
     let same = c.in_ok-model.ensures.model in
     let rows = rows_told bs wf _ held _ c.in_ok-table.ensures in
     record {
