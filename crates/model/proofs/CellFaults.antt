@@ -25,10 +25,6 @@ cell_first bs c n e h s = cells_next bs c n h ∙ ap (λ o. or_else o (cells_fau
 pub cell_passed : (bs : List ℕ) (c n : ℕ) → c < n → None ≡ cell_fault bs c → cells_fault bs c (n - c) ≡ cells_fault bs (c + 1) (n - (c + 1))
 cell_passed bs c n h s = cells_next bs c n h ∙ ap (λ o. or_else o (cells_fault bs (c + 1) (n - (c + 1)))) (sym s)
 
--- a fault of the head is that of the file
-pub fault_in_head : (bs : List ℕ) (e : Refusal) → Some e ≡ head_fault bs → Some e ≡ fault bs
-fault_in_head bs e head = ap (λ o. or_else o (or_else (cells_fault bs 0 (count bs)) (end_fault bs))) head
-
 -- a file whose head has no fault has that of its cells, else that of its end
 pub fault_in_cells : (bs : List ℕ) (n : ℕ) (e : Refusal) → None ≡ head_fault bs → n ≡ count bs → cells_fault bs 0 n ≡ Some e → Some e ≡ fault bs
 fault_in_cells bs n e head size first =
