@@ -18,7 +18,7 @@ use Rattle.tables.proofs.Texts.{joined_same}
 use denote.Param.Members.{Mut}
 
 -- what is printed of all values that a chain gives
-pub printed_all : {I T : Type 0} {next : I → Option T → I → Type 0} {values : I} {all : List T} {output : T → Option (List ℕ)} (old new : List ℕ) (text : T → List ℕ) →
+printed_all : {I T : Type 0} {next : I → Option T → I → Type 0} {values : I} {all : List T} {output : T → Option (List ℕ)} (old new : List ℕ) (text : T → List ℕ) →
     PrintsEach next output values old new → ((x : T) → output x ≡ Some (text x)) → YieldsList next (λ x. x) values all → new ≡ old ++ flat_map (λ x. line (text x)) all
 printed_all old new text (xs, (end, (last, given, ended)), printed) shows gives =
     printed text shows ∙ ap (λ ys. old ++ flat_map (λ x. line (text x)) ys) (sym (map-id xs) ∙ items_from_drains xs (last, given, λ _. (end, ended)) gives)
@@ -41,7 +41,7 @@ flat_map-filter_map said chosen f same (x ∷ xs) = flat_map-cons_option said (c
 one_number_more : (n : ℕ) → range_with_len 0 (suc n) ≡ range_with_len 0 n ++ (n ∷ [])
 one_number_more n = ap (range_with_len 0) (sym (add-one n)) ∙ (sym (map-id (range_with_len 0 (n + 1))) ∙ (map-range_with_len_more (λ x. x) 0 n n (zero-add n) ∙ ap (λ ns. ns ++ (n ∷ [])) (map-id (range_with_len 0 n))))
 
-pub flat_map-numbers : (f : ℕ → List ℕ) (n : ℕ) → flat_map f (range_with_len 0 n) ≡ joined f n
+flat_map-numbers : (f : ℕ → List ℕ) (n : ℕ) → flat_map f (range_with_len 0 n) ≡ joined f n
 flat_map-numbers f zero = refl
 flat_map-numbers f (suc n) = ap (flat_map f) (one_number_more n) ∙ (flat_map-append f (range_with_len 0 n) (n ∷ []) ∙ ap₂ ◌++◌ (flat_map-numbers f n) (append-nil (f n)))
 

@@ -8,13 +8,16 @@ use Rattle.basins.specs.declared.parting.Basin.{Basin}
 use Rattle.tables.specs.Printing.{line}
 
 -- an exit, how many cells its basin has, and what leaves there
-abbrev pub basin_text : Basin → List ℕ
-basin_text b = codes "exit " ++ (decimal b.outlet.0 ++ (codes " cells " ++ (decimal b.cells ++ (codes " amount " ++ decimal b.amount.0))))
+abbrev pub basin_text : ℕ → ℕ → ℕ → List ℕ
+basin_text cell cells amount = codes "exit " ++ (decimal cell ++ (codes " cells " ++ (decimal cells ++ (codes " amount " ++ decimal amount))))
+
+abbrev pub basin_line : ℕ → ℕ → ℕ → List ℕ
+basin_line cell cells amount = line (basin_text cell cells amount)
 
 -- the line of a basin, if there is one
 abbrev pub basin_if : Option Basin → List ℕ
 basin_if None = []
-basin_if (Some b) = line (basin_text b)
+basin_if (Some b) = basin_line b.outlet.0 b.cells b.amount.0
 
 -- THE TEXT of a model's basins: a line for each exit, in the order of numbers, with the number of the cells of its basin and their rain
 abbrev pub basins_text : List ℕ → List ℕ

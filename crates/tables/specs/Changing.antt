@@ -16,12 +16,12 @@ use Rattle.tables.specs.declared.answers.Hint.{Hint}
 use Rattle.tables.specs.Printing.{line}
 
 -- what leaves after a change, and how many levels it changed
-abbrev pub changed_text : Changed → List ℕ
-changed_text d = codes "leaves " ++ (decimal d.leaves.0 ++ (codes " changed " ++ decimal d.levels))
+abbrev pub changed_text : ℕ → ℕ → List ℕ
+changed_text leaves levels = codes "leaves " ++ (decimal leaves ++ (codes " changed " ++ decimal levels))
 
 -- an answer, and its line
 abbrev pub answer_text : Result Changed Refusal → List ℕ
-answer_text (Ok d) = changed_text d
+answer_text (Ok d) = changed_text d.leaves.0 d.levels
 answer_text (Err r) = refused_text r
 
 abbrev pub answer_line : Result Changed Refusal → List ℕ
@@ -31,15 +31,19 @@ answer_line a = line (answer_text a)
 abbrev pub hint_text : ℕ → List ℕ
 hint_text number = codes "change: line " ++ (decimal number ++ codes " is no change")
 
--- the line of a hint at what is asked for, if it is no change
+abbrev pub hint_line : ℕ → List ℕ
+hint_line number = line (hint_text number)
+
+-- the hint, if there is no change
 abbrev pub hint_if : ℕ → Option Change → List ℕ
-hint_if number None = line (hint_text number)
+hint_if number None = hint_line number
 hint_if number (Some x) = []
 
+-- the hint at what is asked
 abbrev pub hint : Asked → List ℕ
 hint a = hint_if a.line a.change
 
--- what is hinted at
+-- what that hint says
 abbrev pub hint_at : Asked → Option Hint
 hint_at a = cond (is_some a.change) None (Some (record { line = a.line }))
 

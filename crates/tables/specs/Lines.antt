@@ -13,24 +13,23 @@ use Rattle.tables.specs.Printing.{line}
 abbrev pub refusal_line : Refusal → List ℕ
 refusal_line r = line (refused_text r)
 
--- of a drained model how many cells it has, what rained on it and what leaves it
+-- the first line of a drained model: how many cells it has, what rained on it and what leaves it
 abbrev pub summary_text : ℕ → ℕ → ℕ → List ℕ
 summary_text cells rain leaves = codes "cells " ++ (decimal cells ++ (codes " rain " ++ (decimal rain ++ (codes " leaves " ++ decimal leaves))))
+
+abbrev pub summary : ℕ → ℕ → ℕ → List ℕ
+summary cells rain leaves = line (summary_text cells rain leaves)
 
 -- a cell's level
 abbrev pub level_text : ℕ → ℕ → List ℕ
 level_text cell level = codes "level " ++ (decimal cell ++ (codes " " ++ decimal level))
 
+abbrev pub level_line : ℕ → ℕ → List ℕ
+level_line cell level = line (level_text cell level)
+
 -- what leaves the land at a cell
 abbrev pub exit_text : ℕ → ℕ → List ℕ
 exit_text cell amount = codes "exit " ++ (decimal cell ++ (codes " amount " ++ decimal amount))
-
--- the lines of these
-abbrev pub summary : ℕ → ℕ → ℕ → List ℕ
-summary cells rain leaves = line (summary_text cells rain leaves)
-
-abbrev pub level_line : ℕ → ℕ → List ℕ
-level_line cell level = line (level_text cell level)
 
 abbrev pub exit_line : ℕ → ℕ → List ℕ
 exit_line cell amount = line (exit_text cell amount)
@@ -50,7 +49,7 @@ level_of bs levels c = level_if c (height_at bs c) (slice_index levels c)
 abbrev pub exit_of : (bs flow amounts : List ℕ) → ℕ → List ℕ
 exit_of bs flow amounts c = exit_if c (rain_at bs c) (leaves_at flow amounts c)
 
--- what these lines tell, if the model has the cell
+-- what these lines say, if the model has the cell
 abbrev pub level_above : (bs levels : List ℕ) → ℕ → Option Level
 level_above bs levels c =
     cond (nat_lt c (count bs) && nat_lt (height_at bs c) (slice_index levels c)) (Some (record { cell = record { 0 = c }; level = record { 0 = slice_index levels c } })) None

@@ -25,7 +25,7 @@ use std::fmt;
 struct BasinLine(Basin);
 
 impl fmt::Display for BasinLine {
-    ghost output = { λ l. Some (basin_text l.0) };
+    ghost output = { λ l. Some (basin_text l.0.outlet.0 l.0.cells l.0.amount.0) };
 
     fn fmt<W: fmt::Write>(&self, f: &mut fmt::Formatter<W>) -> fmt::Result {
         let BasinLine(basin) = self;
