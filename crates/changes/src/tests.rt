@@ -12,19 +12,23 @@ use std::alloc::Global;
 use std::process::Abort;
 use std::test::Fail;
 
+fn asked(line: usize, change: Change) -> Asked {
+    Asked {
+        line,
+        change: Some(change),
+    }
+}
+
 fn height(line: usize, cell: u32, value: u32) -> Asked {
-    let change = Some(Change::Height(Cell(cell), Height(value)));
-    Asked { line, change }
+    asked(line, Change::Height(Cell(cell), Height(value)))
 }
 
 fn rain(line: usize, cell: u32, value: u64) -> Asked {
-    let change = Some(Change::Rain(Cell(cell), Amount(value)));
-    Asked { line, change }
+    asked(line, Change::Rain(Cell(cell), Amount(value)))
 }
 
 fn drain(line: usize, cell: u32, mark: bool) -> Asked {
-    let change = Some(Change::Drain(Cell(cell), mark));
-    Asked { line, change }
+    asked(line, Change::Drain(Cell(cell), mark))
 }
 
 fn no_change(line: usize) -> Asked {

@@ -48,7 +48,7 @@ fn table_of(rows: [Row; 9]) -> [[u8; 20]; 9] {
     rows.map(|row| row.to_bytes())
 }
 
-// The number and the place of a refusal.
+// The number and the place of a refusal, which are what is printed.
 fn numbers(bytes: &[u8], table: &[u8]) -> Result<(), (u32, usize)> {
     checked(bytes, table).map_err(|refusal| (refusal.number(), refusal.place()))
 }

@@ -15,8 +15,7 @@ use tables::lines::refusal_line;
 #[derive(Debug, Drop)]
 pub struct Failed;
 
-// A program's exit status. What went wrong is printed already, so a program ends with this and not with the error itself. Each program's
-// main says its name and calls this; a function around that would take what it runs as a closure and be no plainer.
+// A program's exit status. What went wrong is printed already, so a program ends with this and not with the error itself.
 pub fn status_of(done: Result<(), Failed>) -> ExitCode
     ensures ok { OnOk done (result ≡ ExitCode.SUCCESS) }
     ensures err { OnErr done (result ≡ ExitCode.FAILURE) }

@@ -36,6 +36,7 @@ fn run(program: &Program<'_>) -> Result<(), Failed> {
     }
 }
 
+// Each program has its own, which says its name: a function around this would be no plainer.
 fn main(rt: HostRuntime) -> ExitCode {
     let program = Program {
         rt: &rt,

@@ -10,7 +10,7 @@ use std::ops::Range;
 
 const SEED: u64 = 20_261_118;
 
-// The memory and the dice of a run, and what it has compared.
+// The memory and the dice of a run, and what it has compared. A model goes beside it, another one each time.
 #[derive(Drop)]
 pub struct Run {
     pub heap: Global,

@@ -71,6 +71,7 @@ impl fmt::Display for Exit {
     }
 }
 
+// The functions below take the model and the slices that they read one by one: no two need the same ones.
 // A cell's level in a slice of levels, 0 where it has none.
 fn level_at(levels: &[u32], cell: Cell) -> Height
     ensures { result.0 ≡ slice_index levels.now cell.0 }

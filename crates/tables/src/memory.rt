@@ -9,7 +9,7 @@ use model::land::Model;
 use model::slices::Slices;
 use std::alloc::{AllocError, Global};
 
-// What is lent to drain a model: an entry for each cell in levels, flow and amounts, three in the work.
+// What is lent to drain a model: an entry for each cell in levels, flow and amounts, three in the work. Lists side by side, as they are lent.
 #[derive(Drop)]
 pub(crate) struct Memory {
     levels: Vec<u32>,
