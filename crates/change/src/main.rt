@@ -27,9 +27,8 @@ fn change_files(
 ) -> Result<(), Failed> {
     let bytes = program.read_file(model)?;
     let text = program.read_file(row)?;
-    let report = changed(program.rt.alloc(), &bytes, &text).map_err(|failure| program.fail(
-        failure,
-    ))?;
+    let heap = program.rt.alloc();
+    let report = changed(heap, &bytes, &text).map_err(|failure| program.fail(failure))?;
     save(program, outs, &report)?;
     program.hint(&report.hints);
     program.print(&report.text)

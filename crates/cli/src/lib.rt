@@ -46,10 +46,8 @@ impl Program<'_> {
 
     // Writes a file whole or not at all: what stood there before stays until the new file is complete.
     pub fn save_file(&self, path: &str, bytes: &[u8]) -> Result<(), Failed> {
-        replaced(self.rt, path, bytes).map_err(|error| self.cannot(
-            format_args!("write {path}"),
-            error,
-        ))
+        let done = replaced(self.rt, path, bytes);
+        done.map_err(|error| self.cannot(format_args!("write {path}"), error))
     }
 
     // Text on standard output, by one write.
@@ -78,7 +76,7 @@ impl Program<'_> {
     }
 
     // One line on standard error that says what the program could not do.
-    fn cannot<W: Display + Drop>(&self, what: W, error: io::Error) -> Failed {
+    fn cannot<T: Display + Drop>(&self, what: T, error: io::Error) -> Failed {
         let _ = eprintln!(self.rt; "{}: cannot {what}: {error}", self.name);
         Failed
     }

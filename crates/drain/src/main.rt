@@ -12,7 +12,8 @@ const USAGE: &str =
 // Drains the model in a file, saves its table if asked to, and prints its lines.
 fn drain_file(program: &Program<'_>, model: &str, table: Option<&str>) -> Result<(), Failed> {
     let bytes = program.read_file(model)?;
-    let report = drained(program.rt.alloc(), &bytes).map_err(|failure| program.fail(failure))?;
+    let heap = program.rt.alloc();
+    let report = drained(heap, &bytes).map_err(|failure| program.fail(failure))?;
     if let Some(path) = table {
         program.save_file(path, &report.table)?;
     }
@@ -22,7 +23,8 @@ fn drain_file(program: &Program<'_>, model: &str, table: Option<&str>) -> Result
 // Prints the basins of the model in a file.
 fn list_basins(program: &Program<'_>, model: &str) -> Result<(), Failed> {
     let bytes = program.read_file(model)?;
-    let text = parted(program.rt.alloc(), &bytes).map_err(|failure| program.fail(failure))?;
+    let heap = program.rt.alloc();
+    let text = parted(heap, &bytes).map_err(|failure| program.fail(failure))?;
     program.print(&text)
 }
 
