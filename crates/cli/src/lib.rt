@@ -16,6 +16,7 @@ use tables::lines::refusal_line;
 pub struct Failed;
 
 // A program's exit status. What went wrong is printed already, so a program ends with this and not with the error itself.
+// A function and no `From`: both types are the library's.
 pub fn status_of(done: Result<(), Failed>) -> ExitCode
     ensures ok { OnOk done (result ≡ ExitCode.SUCCESS) }
     ensures err { OnErr done (result ≡ ExitCode.FAILURE) }

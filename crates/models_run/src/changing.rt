@@ -20,7 +20,8 @@ enum Field {
     Drain,
 }
 
-// A change that is asked for; the cell may not exist, and the value may be out of range.
+// A change that is asked for; the cell may not exist, and the value may be out of range. Not the library's `Change`, which cannot name a mark
+// of 2; and a field is no step to run but a part of the change, so a match on it is what closures would only hide.
 #[derive(Clone, Copy)]
 struct Wish {
     field: Field,
