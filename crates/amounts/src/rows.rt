@@ -65,7 +65,7 @@ pub fn write_row(table: &mut [u8], cell: Cell, row: Row) -> Result<(), NoRow>
 pub fn read_row(table: &[u8], cell: Cell) -> Option<Row>
     ensures { result ≡ row_at table.now cell.0 }
 {
-    let part = table.get(row_start(cell)..)?;
+    let part = table.get(row_start(cell)..)?.first_chunk::<ROW_BYTES>()?;
     let (level, part) = part.split_first_chunk()?;
     let (sends, part) = part.split_first_chunk()?;
     let (place, part) = part.split_first_chunk()?;
