@@ -1,4 +1,5 @@
 // Rows of changes beside models that are changed and drained anew.
+use crate::faults::{reported, told};
 use crate::land::{Ground, MOST};
 use crate::lent::Lists;
 use crate::numbers::Dice;
@@ -125,7 +126,7 @@ fn answers_to(
         .try_collect(heap)
 }
 
-// A row of changes of a model: the answers, and the file and the slices after it beside those of the changed model.
+// A row of changes of a model: the answers, a refusal by what is reported of it, and the file and the slices after it beside those of the changed model.
 pub fn compare_row(run: &mut Run, ground: &Ground) -> Result<(), AllocError> {
     let heap = run.heap;
     let wishes = some_wishes(heap, &mut run.dice, ground.cells())?;
@@ -138,6 +139,14 @@ pub fn compare_row(run: &mut Run, ground: &Ground) -> Result<(), AllocError> {
     let expected = answers_to(heap, &mut changed, &wishes)?;
     let tallies = &mut run.tallies;
     tallies.note(Comparison::Rows, found.len() == wishes.len())?;
+    let found: Vec<_> = found
+        .iter()
+        .map(|answer| answer.map_err(told))
+        .collect(heap)?;
+    let expected: Vec<_> = expected
+        .iter()
+        .map(|answer| answer.map_err(reported))
+        .collect(heap)?;
     tallies.note_all(Comparison::Rows, &found, &expected)?;
     tallies.note(Comparison::Rows, bytes == changed.file(heap)?)?;
     let expected = worked_out(heap, &changed)?;

@@ -21,6 +21,11 @@ pub fn reported(refusal: Refusal) -> (u32, usize) {
     }
 }
 
+// The number and the place by which the library reports a refusal.
+pub fn told(refusal: Refusal) -> (u32, usize) {
+    (refusal.number(), refusal.place())
+}
+
 // A file, and where its next field begins.
 #[derive(Clone, Copy)]
 struct Fields<'a> {

@@ -1,5 +1,5 @@
 // What was compared.
-use crate::faults::reported;
+use crate::faults::{reported, told};
 use model::refusal::Refusal;
 use std::alloc::{AllocError, Global};
 use std::collections::{BTreeMap, BTreeSet};
@@ -106,7 +106,7 @@ impl Tallies {
         found: Option<Refusal>,
         expected: Option<Refusal>,
     ) -> Result<(), AllocError> {
-        let found = found.map(|refusal| (refusal.number(), refusal.place()));
+        let found = found.map(told);
         let expected = expected.map(reported);
         let number = expected.map(|(number, _)| number);
         self.expected.insert((comparison, number))?;
