@@ -36,9 +36,14 @@ fn made_entries(heap: Global) -> Result<Vec<Entry>, AllocError> {
     .collect(heap)
 }
 
+// Level and number of an entry as one number, to sort by: the library's own order is not what its queue is compared with.
+fn sort_key(entry: Entry) -> u64 {
+    u64::from(entry.level.0) * 1_000_000 + u64::from(entry.cell.0)
+}
+
 fn sorted(heap: Global, entries: &[Entry]) -> Result<Vec<Entry>, AllocError> {
     let mut sorted = entries.to_vec(heap)?;
-    sorted.sort()?;
+    sorted.sort_by_key(|entry| sort_key(*entry))?;
     Ok(sorted)
 }
 
