@@ -1,9 +1,9 @@
 -- What is said of one cell more.
-use Rattle.std.proofs.Common.{◌≡◌, ℕ, zero, suc, ◌+◌, ◌<◌, List, ◌++◌, sym, refl, ap, ◌∙◌, ap₂, add-one, arith}
+use Rattle.std.proofs.Common.{◌≡◌, ℕ, zero, suc, ◌+◌, ◌<◌, List, ◌++◌, sym, refl, ap, ◌∙◌, ap₂, append_assoc, add-one, arith}
 use Rattle.amounts.specs.Joined.{joined}
 
-pub joined_more : (said : ℕ → List ℕ) (now after : List ℕ) (c : ℕ) → now ≡ joined said c → after ≡ now ++ said c → after ≡ joined said (c + 1)
-joined_more said now after c e f = f ∙ (ap (λ t. t ++ said c) e ∙ ap (joined said) (sym (add-one c)))
+pub joined_more : (first now after : List ℕ) (said : ℕ → List ℕ) (c : ℕ) → now ≡ first ++ joined said c → after ≡ now ++ said c → after ≡ first ++ joined said (c + 1)
+joined_more first now after said c e f = f ∙ (ap (λ t. t ++ said c) e ∙ (append_assoc first (joined said c) (said c) ∙ ap (λ k. first ++ joined said k) (sym (add-one c))))
 
 -- the same is said where it is the same of each cell
 pub joined_same : (f g : ℕ → List ℕ) (n : ℕ) → ((c : ℕ) → c < n → f c ≡ g c) → joined f n ≡ joined g n

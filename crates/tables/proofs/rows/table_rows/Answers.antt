@@ -1,4 +1,4 @@
-use Rattle.std.proofs.Common.{◌-◌, ◌*◌, ◌++◌, length, drop, vec_items, sym, ap, ◌∙◌, arith, length-append, length-drop}
+use Rattle.std.proofs.Common.{[], ◌-◌, ◌*◌, ◌++◌, length, drop, vec_items, sym, ap, ◌∙◌, arith, length-append, length-drop}
 use Rattle.std.proofs.lemmas.List.{take_all}
 use Rattle.amounts.specs.Joined.{joined}
 use Rattle.amounts.specs.Row.{row_bytes}
@@ -32,7 +32,7 @@ loop-level-preserved c =
     let more = c.in_ok-extend_from_slice.ensures.items ∙ ap (λ bs. vec_items c.loop-level.table ++ bs) (c.to_bytes.ensures ∙ row) in
     record {
       reads = c.loop-level.invariant.reads;
-      rows = joined_more _ _ _ (length c.loop-level.yielded) c.loop-level.invariant.rows more ∙ ap (joined _) (sym (length-append c.loop-level.yielded _));
+      rows = joined_more [] _ _ _ (length c.loop-level.yielded) c.loop-level.invariant.rows more ∙ ap (joined _) (sym (length-append c.loop-level.yielded _));
     }
 
 pub returns : goal.returns
